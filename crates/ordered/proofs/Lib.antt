@@ -1,1 +1,5 @@
+pub mod Keys
+pub mod Lookups
+pub mod Moves
+pub mod Orders
 pub mod Places
