@@ -1,3 +1,4 @@
+pub mod Changes
 pub mod Keys
 pub mod Lookups
 pub mod Moves

@@ -10,6 +10,8 @@ ghost use mathlib.Core.Bool.{Bool, false, not, true};
 ghost use mathlib.Core.List.{List, [], _++_, _∷_};
 ghost use mathlib.Core.Path.{_≡_};
 
+pub mod kept;
+
 // A standing order over items of the type T: which of two comes first in a row. The implementor is the comparator, so
 // that an order with settings of its own can be one.
 pub trait Standing<T> {
