@@ -5,7 +5,7 @@ use mathlib.Core.List.{List}
 use mathlib.Core.Logic.{inl, inr}
 use mathlib.Core.Path.{_≡_, refl, sym, ap, subst, fun-ext, _∙_}
 use native.Mathlib.Omega.{arith}
-use lib.Dec.{ltb}
+use lib.Dec.{leb, ltb}
 use lib.IntN.{ℤ}
 use lib.ListN.{length, getD, set, length-set}
 use Rattle.std.specs.Of.Vec.{vec-cap, vec-items, vec-len}
@@ -28,11 +28,12 @@ use Rattle.ordered.proofs.Keys.{eqZ-true}
 use Rattle.ordered.proofs.Lookups.{lacks-from-none}
 use Rattle.ordered.proofs.Orders.{all-pass-inserted, place-within}
 use Rattle.clearing.specs.Account.{account-fits}
-use Rattle.clearing.specs.Centre.{adjusted}
-use Rattle.clearing.specs.Ledger.{Added, Moved, account-before, account-of, can-add, lines-of, row-of, sound-row, with-line}
-use Rattle.clearing.specs.Line.{empty}
+use Rattle.clearing.specs.Centre.{adjusted, holds}
+use Rattle.clearing.specs.Ledger.{Added, Adjusted, Moved, account-before, account-of, can-add, lines-of, row-of, sound-row, with-line}
+use Rattle.clearing.specs.Line.{empty, on}
 use Rattle.clearing.specs.declared.ledger.AccountLine.{AccountLine}
 use Rattle.clearing.specs.declared.line.Line.{Line}
+use Rattle.clearing.specs.declared.side.Side.{Side}
 use Rattle.clearing.proofs.Seen.{seen-found, seen-set, seen-same, seen-inserted, unseen}
 
 -- the lines, where the line of the account at a place is another
@@ -57,6 +58,21 @@ moved-row xs i x l read a found =
     let allowance : x .allowance ≡ getD xs i (with-line x l) .allowance = ap (λ r. r .allowance) (getD-read xs i x (found .0) read (with-line x l)) in
     subst (λ b. Moved xs b l (set xs i (with-line x l))) own
     (lines-put xs i x l here, seen-same account-of (λ r. r .allowance) xs i (with-line x l) here allowance, length-set xs i (with-line x l))
+
+-- the line that a row got is f of the line that it had
+pub adjusted-row : (xs ys : List AccountLine) (i : ℕ) (a : ℤ) (f : Line → Line) (x : AccountLine) (l : Line) → Found account-of xs a (Some i) → x ≡ getD xs i x → l ≡ f (x .line) → Moved xs a l ys → Adjusted xs a f ys
+adjusted-row xs ys i a f x l found read is (lines, allowances, long) =
+    let had : lines-of xs a ≡ Some (x .line) = seen-found account-of (λ r. r .line) xs a i found x ∙ ap (λ r. Some (r .line)) (sym read) in
+    let at : mapped (λ _. l) (lines-of xs a) ≡ mapped f (lines-of xs a) = ap (mapped (λ _. l)) had ∙ ap Some is ∙ sym (ap (mapped f) had) in
+    (lines ∙ fun-ext (λ b. elim (cases-bool (eqZ a b)) [
+      inl e ↦ cond-true (eqZ a b) _ _ e ∙ subst (λ k. mapped (λ _. l) (lines-of xs k) ≡ mapped f (lines-of xs k)) (eqZ-true a b e) at ∙ sym (cond-true (eqZ a b) _ _ e)
+    | inr e ↦ cond-false (eqZ a b) _ _ e ∙ sym (cond-false (eqZ a b) _ _ e)
+    ]), allowances, long)
+
+-- what the row of an account tells of the lots that it holds
+pub holds-row : (xs : List AccountLine) (i : ℕ) (a : ℤ) (s : Side) (n : ℕ) (x : AccountLine) → Found account-of xs a (Some i) → x ≡ getD xs i x → holds (lines-of xs a) s n ≡ leb n (on s (x .line) .held)
+holds-row xs i a s n x found read =
+    ap (λ o. holds o s n) (seen-found account-of (λ r. r .line) xs a i found x ∙ ap (λ r. Some (r .line)) (sym read))
 
 -- a row for a new account is put in somewhere
 pub added-row : (xs : List AccountLine) (i : ℕ) (a : ℤ) (n : ℕ) → i ≤ length xs → Lacks account-of xs a (length xs) → Added xs a n (inserted xs i (row-of a n empty))

@@ -1,22 +1,23 @@
 -- The rows of a ledger: accounts with their allowance and their line. Assumes nothing.
-use Prim.Native.Nat.{ℕ, _+_}
-use mathlib.Core.Bool.{Bool, cond, not, _&&_}
+use Prim.Native.Nat.{ℕ, _+_, _≤_}
+use mathlib.Core.Bool.{Bool, true, false, cond, not, _&&_}
 use mathlib.Core.List.{List}
 use mathlib.Core.Path.{_≡_}
 use lib.Dec.{ltb}
 use lib.IntN.{ℤ}
-use lib.ListN.{length}
+use lib.ListN.{length, getD}
 use lib.Signed.{ltZ}
 use Rattle.std.specs.Options.{isSome, mapped}
 use Rattle.std.specs.declared.option.Option.{Option}
-use Rattle.std.specs.declared.option.Option.the-variants.{Some}
+use Rattle.std.specs.declared.option.Option.the-variants.{Some, None}
 use Rattle.ordered.specs.Key.{eqZ}
-use Rattle.ordered.specs.Row.{at-key}
+use Rattle.ordered.specs.Row.{Found, at-key}
 use Rattle.clearing.specs.Account.{account-fits}
-use Rattle.clearing.specs.Centre.{Lines, adjusted}
-use Rattle.clearing.specs.Line.{empty, sound-line}
+use Rattle.clearing.specs.Centre.{Lines, adjusted, holds}
+use Rattle.clearing.specs.Line.{empty, on, sound-line}
 use Rattle.clearing.specs.declared.ledger.AccountLine.{AccountLine}
 use Rattle.clearing.specs.declared.line.Line.{Line}
+use Rattle.clearing.specs.declared.side.Side.{Side}
 
 abbrev pub account-of : AccountLine → ℤ
 account-of x = x .account
@@ -42,9 +43,18 @@ lines-of rows = λ a. mapped (λ x. x .line) (at-key account-of rows a)
 abbrev pub allowances-of : List AccountLine → ℤ → Option ℕ
 allowances-of rows = λ a. mapped (λ x. x .allowance) (at-key account-of rows a)
 
+-- the rows xs with f done to the line of the account a become ys
+abbrev pub Adjusted : List AccountLine → ℤ → (Line → Line) → List AccountLine → Type 0
+Adjusted xs a f ys = (lines-of ys ≡ adjusted (lines-of xs) a f) × (allowances-of ys ≡ allowances-of xs) × (length ys ≡ length xs)
+
 -- the rows xs with another line for the account a become ys
 abbrev pub Moved : List AccountLine → ℤ → Line → List AccountLine → Type 0
-Moved xs a l ys = (lines-of ys ≡ adjusted (lines-of xs) a (λ _. l)) × (allowances-of ys ≡ allowances-of xs) × (length ys ≡ length xs)
+Moved xs a l ys = Adjusted xs a (λ _. l) ys
+
+-- where the row of the account is that holds the lots
+abbrev pub Holder : List AccountLine → ℤ → Side → ℕ → Option ℕ → Type 0
+Holder xs a s n (Some i) = Found account-of xs a (Some i) × (holds (lines-of xs a) s n ≡ true) × ((d : AccountLine) → n ≤ on s (getD xs i d .line) .held)
+Holder xs a s n None = holds (lines-of xs a) s n ≡ false
 
 -- an account that can be added: one that has no line yet, where a place is free
 abbrev pub can-add : List AccountLine → ℤ → Bool

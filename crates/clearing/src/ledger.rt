@@ -1,7 +1,9 @@
 // The lines of a centre's accounts, kept in one row by account, each with the number that the house set for it.
 ghost use Prim.Native.Nat.{_<_, _≤_};
-ghost use Rattle.clearing.specs.Ledger.{Added, Moved, account-before, account-of, can-add, lines-of, sound-row};
-ghost use Rattle.clearing.specs.Line.{sound-line};
+ghost use Rattle.clearing.specs.Centre.{holds};
+ghost use Rattle.clearing.specs.Ledger.{Added, Adjusted, Holder, Moved, account-before, account-of, can-add, lines-of, sound-row};
+ghost use Rattle.clearing.specs.Line.{hold, in-range, release, settle, sound-line};
+ghost use Rattle.clearing.specs.declared.ledger.AccountLine.{AccountLine};
 ghost use Rattle.ordered.specs.Row.{Found, in-order};
 ghost use Rattle.std.specs.Of.Vec.{vec-cap, vec-items, vec-len};
 ghost use Rattle.std.specs.Vec.{made};
@@ -14,6 +16,7 @@ ghost use mathlib.Core.List.{[]};
 ghost use mathlib.Core.Path.{_≡_};
 use crate::account::is_account;
 use crate::line::Line;
+use crate::side::Side;
 use ordered::Standing;
 use ordered::find;
 use ordered::kept::add;
@@ -74,7 +77,8 @@ impl Ledger {
     // The row at a place.
     pub(crate) fn row(&self, at: usize) -> AccountLine
         requires { ⌜ at < vec-len (now self .rows) ⌝ }
-        ensures { λ r. ⌜ r ≡ getD (vec-items (now (self .entry) .rows)) at r ⌝ }
+        ensures value { λ r. ⌜ r ≡ getD (vec-items (now (self .entry) .rows)) at r ⌝ }
+        ensures sound { λ r. ⌜ sound-line (r .line) ≡ true ⌝ }
     {
         self.rows[at]
     }
@@ -94,6 +98,55 @@ impl Ledger {
         ensures moved { λ _. ⌜ ((a : ℤ) → Found account-of (vec-items (now (self .entry) .rows)) a (Some at) → Moved (vec-items (now (self .entry) .rows)) a line (vec-items (now (self .exit) .rows))) ⌝ }
     {
         self.rows[at].line = line;
+    }
+
+    // Holds lots more for the account of a row.
+    pub(crate) fn hold(&mut self, at: usize, side: Side, lots: u64)
+        requires within { ⌜ at < vec-len (now self .rows) ⌝ }
+        requires room { ⌜ ((d : AccountLine) → in-range side lots (getD (vec-items (now self .rows)) at d .line) ≡ true) ⌝ }
+        ensures held { λ _. ⌜ ((a : ℤ) → Found account-of (vec-items (now (self .entry) .rows)) a (Some at) → Adjusted (vec-items (now (self .entry) .rows)) a (hold side lots) (vec-items (now (self .exit) .rows))) ⌝ }
+    {
+        let line = self.row(at).line.hold(side, lots);
+        self.put(at, line);
+    }
+
+    // Where the row of an account is, if it holds the lots.
+    fn holder(&self, account: i64, side: Side, lots: u64) -> Option<usize>
+        ensures { λ r. ⌜ Holder (vec-items (now (self .entry) .rows)) account side lots r ⌝ }
+    {
+        let at = self.place(account)?;
+        if lots > self.row(at).line.on(side).held {
+            return None;
+        }
+        Some(at)
+    }
+
+    // Settles lots that the account holds; false where it does not hold them.
+    pub(crate) fn settle(&mut self, account: i64, side: Side, lots: u64) -> bool
+        ensures test { λ r. ⌜ r ≡ holds (lines-of (vec-items (now (self .entry) .rows)) account) side lots ⌝ }
+        ensures settled { λ r. ⌜ (r ≡ true → Adjusted (vec-items (now (self .entry) .rows)) account (settle side lots) (vec-items (now (self .exit) .rows))) ⌝ }
+        ensures same { λ r. ⌜ (r ≡ false → now (self .exit) ≡ now (self .entry)) ⌝ }
+    {
+        let Some(at) = self.holder(account, side, lots) else {
+            return false;
+        };
+        let line = self.row(at).line.settle(side, lots);
+        self.put(at, line);
+        true
+    }
+
+    // Lets lots that the account holds go; false where it does not hold them.
+    pub(crate) fn release(&mut self, account: i64, side: Side, lots: u64) -> bool
+        ensures test { λ r. ⌜ r ≡ holds (lines-of (vec-items (now (self .entry) .rows)) account) side lots ⌝ }
+        ensures released { λ r. ⌜ (r ≡ true → Adjusted (vec-items (now (self .entry) .rows)) account (release side lots) (vec-items (now (self .exit) .rows))) ⌝ }
+        ensures same { λ r. ⌜ (r ≡ false → now (self .exit) ≡ now (self .entry)) ⌝ }
+    {
+        let Some(at) = self.holder(account, side, lots) else {
+            return false;
+        };
+        let line = self.row(at).line.release(side, lots);
+        self.put(at, line);
+        true
     }
 
     // Whether an account can be added.

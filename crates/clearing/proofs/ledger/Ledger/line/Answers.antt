@@ -18,4 +18,4 @@ pub returns : need.returns
 returns c =
     let rows = c .args .self .now .rows .items in
     let found = passed (λ a. Found account-of rows a (Some (c .in-Continue-at .at))) (c .args .account) (c .fits .account) (c .in-Continue-at .ensures tt) in
-    ap (λ r. Some (r .line)) (c .row .ensures) ∙ sym (seen-found account-of (λ r. r .line) rows (c .args .account) (c .in-Continue-at .at) found (c .row .result))
+    ap (λ r. Some (r .line)) (c .row .ensures .value) ∙ sym (seen-found account-of (λ r. r .line) rows (c .args .account) (c .in-Continue-at .at) found (c .row .result))
