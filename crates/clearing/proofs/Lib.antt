@@ -1,3 +1,4 @@
 pub mod Ledgers
 pub mod Passed
 pub mod Seen
+pub mod Verdicts

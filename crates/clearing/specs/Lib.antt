@@ -1,4 +1,5 @@
 pub mod Account
+pub mod AccountCentre
 pub mod Cause
 pub mod Centre
 pub mod Grant

@@ -38,6 +38,21 @@ impl Grant {
         self.lots
     }
 
+    // The grant without lots that were settled.
+    pub(crate) fn less(self, lots: u64) -> Grant
+        requires { ⌜ lots ≤ self .lots ⌝ }
+        ensures { λ r. ⌜ r ≡ grant-of (self .account) (self .side) (self .lots - lots) ⌝ }
+    {
+        let Grant { account, side, lots: all } = self;
+        Grant { account, side, lots: all - lots }
+    }
+
+    // The end of a grant whose lots are given back.
+    pub(crate) fn spend(self)
+    {
+        let Grant { account: _, side: _, lots: _ } = self;
+    }
+
     // Puts the lots to rest, as part of an order.
     pub fn rest(self) -> Resting
         ensures { λ r. ⌜ r ≡ at-rest self ⌝ }
