@@ -15,24 +15,24 @@ use Rattle.std.proofs.shelf.Tests.{cases-lt}
 use Rattle.ordered.specs.Row.{in-order, place, to-end}
 use Rattle.ordered.proofs.Orders.{in-order-removed, in-order-take}
 
--- the last item of a row rotated to its place among the others
-pub last-to-place : {X : Type 0} (before : X → X → Bool) (row part now : List X) (at : ℕ) → ((d : X) → at ≡ place before (take (length row - 1) row) (getD row (length row - 1) d)) → at ≤ length row - 1 → part ≡ take (length row - at) (drop at row) → now ≡ drop (length part - 1) part ++ take (length part - 1) part → (xs : List X) (x : X) → row ≡ xs ++ x ∷ [] → (at ≡ place before xs x) × (putMid at (length row - at) row now ≡ inserted xs at x)
-last-to-place before row part now at placed within cut turned xs x is =
+-- the last item of a row rotated to its place among the others, by one
+pub last-to-place : {X : Type 0} (before : X → X → Bool) (row part now : List X) (at by : ℕ) → ((d : X) → at ≡ place before (take (length row - 1) row) (getD row (length row - 1) d)) → at ≤ length row - 1 → part ≡ take (length row - at) (drop at row) → now ≡ drop (length part - by) part ++ take (length part - by) part → by ≡ 1 → (xs : List X) (x : X) → row ≡ xs ++ x ∷ [] → (at ≡ place before xs x) × (putMid at (length row - at) row now ≡ inserted xs at x)
+last-to-place before row part now at by placed within cut turned one xs x is =
     let n : length xs ≡ length row - 1 = omega (arith, ap length is, length-push xs x) in
     let others : take (length row - 1) row ≡ xs = ap (take (length row - 1)) is ∙ take-at xs (x ∷ []) (length row - 1) n in
     let last : getD row (length row - 1) x ≡ x = ap (λ l. getD l (length row - 1) x) is ∙ getD-push xs x x (length row - 1) n in
     let h : at ≤ length xs = omega arith in
     let whole : part ≡ drop at xs ++ x ∷ [] = cut ∙ take-rest row at ∙ ap (drop at) is ∙ drop-append-le at xs (x ∷ []) h in
-    let m : length (drop at xs) ≡ length (drop at xs ++ x ∷ []) - 1 = omega (arith, length-push (drop at xs) x) in
+    let m : length (drop at xs) ≡ length (drop at xs ++ x ∷ []) - by = omega (arith, length-push (drop at xs) x) in
     let front = drop-at (drop at xs) (x ∷ []) _ m in
     let back = take-at (drop at xs) (x ∷ []) _ m in
     let head : take at row ≡ take at xs = ap (take at) is ∙ take-append-le at xs (x ∷ []) h in
     let rest : drop (length row - at) (drop at row) ≡ [] = drop-all (length row - at) (drop at row) (omega (arith, length-drop at row)) in
     (placed x ∙ ap₂ (place before) others last, cc (append-nil (x ∷ drop at xs)))
 
--- the item at a place rotated to the end
-pub place-to-end : {X : Type 0} (xs part now : List X) (at : ℕ) → at < length xs → part ≡ take (length xs - at) (drop at xs) → now ≡ drop 1 part ++ take 1 part → putMid at (length xs - at) xs now ≡ to-end xs at
-place-to-end xs part now at h cut turned =
+-- the item at a place rotated to the end, by one
+pub place-to-end : {X : Type 0} (xs part now : List X) (at : ℕ) → part ≡ take (length xs - at) (drop at xs) → now ≡ drop 1 part ++ take 1 part → putMid at (length xs - at) xs now ≡ to-end xs at
+place-to-end xs part now at cut turned =
     let whole : part ≡ drop at xs = cut ∙ take-rest xs at in
     let next : drop 1 (drop at xs) ≡ drop (suc at) xs = drop-drop 1 at xs ∙ ap (λ n. drop n xs) (add-one at) in
     let rest : drop (length xs - at) (drop at xs) ≡ [] = drop-all (length xs - at) (drop at xs) (omega (arith, length-drop at xs)) in

@@ -2,7 +2,7 @@
 use Prim.Native.Nat.{ℕ, zero, suc, _+_, _<_, _≤_}
 use mathlib.Core.Bool.{Bool, true, false, cond}
 use mathlib.Core.List.{List, _∷_}
-use mathlib.Core.Path.{_≡_, sym, ap, _∙_}
+use mathlib.Core.Path.{_≡_, sym, ap, subst₂, _∙_}
 use native.Mathlib.Omega.{arith}
 use lib.ListN.{length, drop, getD}
 use lib.IntN.{ℤ}
@@ -34,16 +34,19 @@ module _ {X : Type 0} (before : X → X → Bool) (xs : List X) (x : X) where
   pub place-over : (i : ℕ) → length xs ≤ i → place before (drop i xs) x ≡ zero
   place-over i h = at-drop-all (λ l. place before l x) xs i h
 
+-- k is the key as the walk compares it, and w the same key as the caller passed it
 module _ {X : Type 0} (key : X → ℤ) (xs : List X) (k : ℤ) where
   -- an item y with another key z is passed
   pub lacks-past : (i : ℕ) (y : X) (z : ℤ) → i < length xs → y ≡ getD xs i y → z ≡ key y → eqZ z k ≡ false → Lacks key xs k i → Lacks key xs k (i + 1)
   lacks-past i y z h read is f below j d l =
       below-more (λ m. key (getD xs m d) ≡ k → ⊥) i (λ m. below m d) (λ e. eqZ-false z k f (is ∙ ap key (getD-read xs i y h read d) ∙ e)) j l
 
-  -- an item y with the key is the first one
-  pub found-here : (i : ℕ) (y : X) (z : ℤ) → i < length xs → y ≡ getD xs i y → z ≡ key y → eqZ z k ≡ true → Lacks key xs k i → Found key xs k (Some i)
-  found-here i y z h read is t below = (h, λ d. ap key (sym (getD-read xs i y h read d)) ∙ sym is ∙ eqZ-true z k t, below)
+  -- an item y with the key is the first one, and j is its place
+  pub found-here : (i : ℕ) (y : X) (z : ℤ) → i < length xs → y ≡ getD xs i y → z ≡ key y → eqZ z k ≡ true → Lacks key xs k i → (w : ℤ) → k ≡ w → (j : ℕ) → j ≡ i → Found key xs w (Some j)
+  found-here i y z h read is t below w same j here =
+      let found : Found key xs k (Some i) = (h, λ d. ap key (sym (getD-read xs i y h read d)) ∙ sym is ∙ eqZ-true z k t, below) in
+      subst₂ (λ u m. Found key xs u (Some m)) same (sym here) found
 
   -- with no item left, none has the key
-  pub lacks-all : (i : ℕ) → length xs ≤ i → Lacks key xs k i → Lacks key xs k (length xs)
-  lacks-all i h below j d l = below j d (omega arith)
+  pub lacks-all : (i : ℕ) → length xs ≤ i → Lacks key xs k i → (w : ℤ) → k ≡ w → Lacks key xs w (length xs)
+  lacks-all i h below w same j d l e = below j d (omega arith) (e ∙ sym same)

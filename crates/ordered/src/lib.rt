@@ -105,3 +105,6 @@ pub fn remove<T>(row: &mut [T], at: usize) -> bool
     row[at..].rotate_left(1);
     true
 }
+
+#[cfg(test)]
+mod tests;

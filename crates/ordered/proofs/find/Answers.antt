@@ -1,13 +1,11 @@
 -- Each step passes an item with another key, or stops at the first one with the key.
-use mathlib.Core.Path.{sym, subst, _∙_}
+use mathlib.Core.Path.{sym, _∙_}
 use mir.Val.{SFits, toZ, ofZ}
 use mir.Syntax.{w64}
 use borrow.Author.Needs.{needs}
 use native.Mathlib.Omega.{arith}
-use Rattle.std.specs.declared.option.Option.the-variants.{Some, None}
 use Rattle.std.proofs.shelf.Signed.{toZ-ofZ}
 use Rattle.ordered.specs.Key.{eqZ}
-use Rattle.ordered.specs.Row.{Found}
 use Rattle.ordered.proofs.Places.{lacks-past, found-here, lacks-all}
 use Rattle.ordered.proofs.find.Needs as need
 
@@ -23,10 +21,8 @@ returns-then-same g c =
     let k = toZ w64 (ofZ w64 (c .args .wanted)) in
     let z = toZ w64 (ofZ w64 (c .key-of .result)) in
     let f : SFits w64 (c .key-of .result) = search needs in
-    let found = found-here (g .S·Standing .key) (c .args .row .now) k (c .loop-i .i) (c .index-row-i .result) z (c .loop-i-test .taken) (c .index-row-i .is) (toZ-ofZ w64 (c .key-of .result) f ∙ c .key-of .ensures) (sym {b = eqZ z k} (c .if-same .ensures tt)) (c .loop-i .inv .1) in
-    subst (λ w. Found (g .S·Standing .key) (c .args .row .now) w (Some (c .loop-i .i))) (toZ-ofZ w64 (c .args .wanted) (c .fits .wanted)) found
+    found-here (g .S·Standing .key) (c .args .row .now) k (c .loop-i .i) (c .index-row-i .result) z (c .loop-i-test .taken) (c .index-row-i .is) (toZ-ofZ w64 (c .key-of .result) f ∙ c .key-of .ensures) (sym {b = eqZ z k} (c .if-same .ensures tt)) (c .loop-i .inv .1) (c .args .wanted) (toZ-ofZ w64 (c .args .wanted) (c .fits .wanted)) _ (omega arith)
 
 pub returns : need.returns
 returns g c =
-    let none = lacks-all (g .S·Standing .key) (c .args .row .now) (toZ w64 (ofZ w64 (c .args .wanted))) (c .loop-i .i) (c .loop-i-test .left) (c .loop-i .inv .1) in
-    subst (λ w. Found (g .S·Standing .key) (c .args .row .now) w None) (toZ-ofZ w64 (c .args .wanted) (c .fits .wanted)) none
+    lacks-all (g .S·Standing .key) (c .args .row .now) (toZ w64 (ofZ w64 (c .args .wanted))) (c .loop-i .i) (c .loop-i-test .left) (c .loop-i .inv .1) (c .args .wanted) (toZ-ofZ w64 (c .args .wanted) (c .fits .wanted))

@@ -19,5 +19,5 @@ returns g c =
     let stands = g .S·Standing .stands s in
     let row = c .args .row .now in
     let at = c .place-of-last-at .result in
-    let after = last-to-place stands row _ (c .rotate-right .last .self) at (c .place-of-last-at .ensures .place) (c .place-of-last-at .ensures .within) refl (c .rotate-right .ensures .after) in
+    let after = last-to-place stands row _ (c .rotate-right .last .self) at _ (c .place-of-last-at .ensures .place) (c .place-of-last-at .ensures .within) refl (c .rotate-right .ensures .after) (omega arith) in
     record { after = after; none = λ e. absurd (omega (arith, ap length e)); ordered = λ xs x e o lacks. ap (in-order stands) (after xs x e .1 ∙ ap (λ n. inserted xs n x) (after xs x e .0)) ∙ in-order-inserted stands (g .S·Standing .key) (g .S·Standing·met .transitive s) (g .S·Standing·met .decided s) xs x o lacks }
