@@ -1,40 +1,27 @@
--- What the rows of a ledger say, after one line moved and after one account was added. Assumes nothing.
-use Prim.Native.Nat.{ℕ, _+_, _<_, _≤_}
-use mathlib.Core.Bool.{true, false, cond, _&&_}
+-- What the rows of a ledger say, after one line moved. Assumes nothing.
+use Prim.Native.Nat.{ℕ, _<_}
+use mathlib.Core.Bool.{true}
 use mathlib.Core.List.{List}
 use mathlib.Core.Logic.{inl, inr}
-use mathlib.Core.Path.{_≡_, refl, sym, ap, subst, fun-ext, _∙_}
-use native.Mathlib.Omega.{arith}
-use lib.Dec.{leb, ltb}
+use mathlib.Core.Path.{_≡_, sym, ap, subst, fun-ext, _∙_}
+use lib.Dec.{leb}
 use lib.IntN.{ℤ}
 use lib.ListN.{length, getD, set, length-set}
-use Rattle.std.specs.Of.Vec.{vec-cap, vec-items, vec-len}
-use Rattle.std.specs.Options.{isSome, mapped}
-use Rattle.std.specs.Results.{isOk}
+use Rattle.std.specs.Options.{mapped}
 use Rattle.std.specs.declared.option.Option.the-variants.{Some}
-use Rattle.std.specs.declared.result.Result.{Result}
-use Rattle.std.specs.declared.result.Result.the-variants.{Ok}
-use Rattle.std.specs.declared.vec.Vec.{Vec}
-use Rattle.std.specs.shelf.Lawful.{all-pass}
-use Rattle.std.specs.shelf.Lists.{inserted}
-use Rattle.std.proofs.shelf.Edits.{length-inserted}
 use Rattle.std.proofs.shelf.Lists.{getD-read}
-use Rattle.std.proofs.shelf.Tests.{and-parts, cases-bool, cond-true, cond-false, ltb-true, not-true}
-use Rattle.ordered.specs.Kept as kept
+use Rattle.std.proofs.shelf.Tests.{and-parts, cases-bool, cond-true, cond-false}
 use Rattle.ordered.specs.Key.{eqZ}
-use Rattle.ordered.specs.Row.{Found, Lacks, at-key, place}
-use Rattle.ordered.proofs.Changes.{added-with-room}
+use Rattle.ordered.specs.Row.{Found, Lacks}
 use Rattle.ordered.proofs.Keys.{eqZ-true}
-use Rattle.ordered.proofs.Lookups.{lacks-from-none}
-use Rattle.ordered.proofs.Orders.{all-pass-inserted, place-within}
 use Rattle.clearing.specs.Account.{account-fits}
 use Rattle.clearing.specs.Centre.{adjusted, holds}
-use Rattle.clearing.specs.Ledger.{Added, Adjusted, Moved, account-before, account-of, can-add, lines-of, row-of, sound-row, with-line}
-use Rattle.clearing.specs.Line.{empty, on}
+use Rattle.clearing.specs.Ledger.{Adjusted, Moved, account-of, can-add, lines-of, with-line}
+use Rattle.clearing.specs.Line.{on}
 use Rattle.clearing.specs.declared.ledger.AccountLine.{AccountLine}
 use Rattle.clearing.specs.declared.line.Line.{Line}
 use Rattle.clearing.specs.declared.side.Side.{Side}
-use Rattle.clearing.proofs.Seen.{seen-found, seen-set, seen-same, seen-inserted, unseen}
+use Rattle.clearing.proofs.Seen.{has-place-parts, seen-found, seen-set, seen-same}
 
 -- the lines, where the line of the account at a place is another
 lines-put : (xs : List AccountLine) (i : ℕ) (x : AccountLine) (l : Line) → Found account-of xs (x .account) (Some i) → lines-of (set xs i (with-line x l)) ≡ adjusted (lines-of xs) (x .account) (λ _. l)
@@ -74,39 +61,6 @@ pub holds-row : (xs : List AccountLine) (i : ℕ) (a : ℤ) (s : Side) (n : ℕ)
 holds-row xs i a s n x found read =
     ap (λ o. holds o s n) (seen-found account-of (λ r. r .line) xs a i found x ∙ ap (λ r. Some (r .line)) (sym read))
 
--- a row for a new account is put in somewhere
-pub added-row : (xs : List AccountLine) (i : ℕ) (a : ℤ) (n : ℕ) → i ≤ length xs → Lacks account-of xs a (length xs) → Added xs a n (inserted xs i (row-of a n empty))
-added-row xs i a n within lacks =
-    (seen-inserted account-of (λ r. r .line) xs i (row-of a n empty) lacks, seen-inserted account-of (λ r. r .allowance) xs i (row-of a n empty) lacks, length-inserted xs i (row-of a n empty) within)
-
 -- an account that can be added finds a place free, and has no row yet
-can-add-parts : (xs : List AccountLine) (a : ℤ) → can-add xs a ≡ true → (length xs < 32) × Lacks account-of xs a (length xs)
-can-add-parts xs a can =
-    let more = and-parts (account-fits a && ltb (length xs) 32) _ can in
-    let first = and-parts (account-fits a) _ (more .0) in
-    let none : isSome (lines-of xs a) ≡ false = not-true (isSome (lines-of xs a)) (more .1) in
-    (ltb-true (length xs) 32 (first .1), lacks-from-none account-of xs a (unseen (λ x. x .line) (at-key account-of xs a) none))
-
--- what holds of the rows w, where an account that can be added came to the rows v
-pub record Joined {Z : Type 0} (v w : Vec AccountLine Z) (a : ℤ) (n : ℕ) (r : Result ℕ AccountLine) : Type 0 where
-  pub few : vec-len w ≤ 32
-  pub room : 32 ≤ vec-cap w
-  pub lacks : Lacks account-of (vec-items v) a (length (vec-items v))
-  pub sound : all-pass sound-row (vec-items v) ≡ true → all-pass sound-row (vec-items w) ≡ true
-  pub ok : isOk r ≡ true
-  pub added : Added (vec-items v) a n (vec-items w)
-
-pub joins : {Z : Type 0} (v w : Vec AccountLine Z) (a : ℤ) (n : ℕ) (l : Line) (r : Result ℕ AccountLine) → can-add (vec-items v) a ≡ true → 32 ≤ vec-cap v → l ≡ empty → kept.Added account-before v (row-of a n l) w r → Joined v w a n r
-joins v w a n l r can room none came =
-    let new = row-of a n empty in
-    let parts = can-add-parts (vec-items v) a can in
-    let here : kept.Added account-before v (row-of a n empty) w r = subst (λ x. kept.Added account-before v (row-of a n x) w r) none came in
-    let all = added-with-room account-before v new w r here (omega (arith, parts .0, v .ok .0)) in
-    record {
-      few = omega (arith, all .2, parts .0, v .ok .0);
-      room = omega (arith, all .3);
-      lacks = parts .1;
-      sound = λ sound. ap (all-pass sound-row) (all .1) ∙ all-pass-inserted sound-row (vec-items v) _ new refl sound;
-      ok = ap isOk (all .0);
-      added = subst (Added (vec-items v) a n) (sym (all .1)) (added-row (vec-items v) _ a n (place-within account-before (vec-items v) new) (parts .1));
-    }
+pub can-add-parts : (xs : List AccountLine) (a : ℤ) → can-add xs a ≡ true → (length xs < 32) × Lacks account-of xs a (length xs)
+can-add-parts xs a can = has-place-parts account-of (λ x. x .line) xs a (and-parts (account-fits a) _ can .1)

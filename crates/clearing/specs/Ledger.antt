@@ -1,20 +1,18 @@
 -- The rows of a ledger: accounts with their allowance and their line. Assumes nothing.
 use Prim.Native.Nat.{ℕ, _+_, _≤_}
-use mathlib.Core.Bool.{Bool, true, false, cond, not, _&&_}
+use mathlib.Core.Bool.{Bool, true, false, _&&_}
 use mathlib.Core.List.{List}
 use mathlib.Core.Path.{_≡_}
-use lib.Dec.{ltb}
 use lib.IntN.{ℤ}
 use lib.ListN.{length, getD}
 use lib.Signed.{ltZ}
-use Rattle.std.specs.Options.{isSome, mapped}
 use Rattle.std.specs.declared.option.Option.{Option}
 use Rattle.std.specs.declared.option.Option.the-variants.{Some, None}
-use Rattle.ordered.specs.Key.{eqZ}
-use Rattle.ordered.specs.Row.{Found, at-key}
+use Rattle.ordered.specs.Row.{Found}
 use Rattle.clearing.specs.Account.{account-fits}
 use Rattle.clearing.specs.Centre.{Lines, adjusted, holds}
 use Rattle.clearing.specs.Line.{empty, on, sound-line}
+use Rattle.clearing.specs.Table.{has-place, seen, with-entry}
 use Rattle.clearing.specs.declared.ledger.AccountLine.{AccountLine}
 use Rattle.clearing.specs.declared.line.Line.{Line}
 use Rattle.clearing.specs.declared.side.Side.{Side}
@@ -37,11 +35,11 @@ sound-row x = sound-line (x .line)
 
 -- the lines of the rows: what a centre over them means
 abbrev pub lines-of : List AccountLine → Lines
-lines-of rows = λ a. mapped (λ x. x .line) (at-key account-of rows a)
+lines-of rows = seen account-of (λ x. x .line) rows
 
 -- the settings of the rows: what the house allows each account
 abbrev pub allowances-of : List AccountLine → ℤ → Option ℕ
-allowances-of rows = λ a. mapped (λ x. x .allowance) (at-key account-of rows a)
+allowances-of rows = seen account-of (λ x. x .allowance) rows
 
 -- the rows xs with f done to the line of the account a become ys
 abbrev pub Adjusted : List AccountLine → ℤ → (Line → Line) → List AccountLine → Type 0
@@ -56,13 +54,9 @@ abbrev pub Holder : List AccountLine → ℤ → Side → ℕ → Option ℕ →
 Holder xs a s n (Some i) = Found account-of xs a (Some i) × (holds (lines-of xs a) s n ≡ true) × ((d : AccountLine) → n ≤ on s (getD xs i d .line) .held)
 Holder xs a s n None = holds (lines-of xs a) s n ≡ false
 
--- an account that can be added: one that has no line yet, where a place is free
+-- an account that can be added
 abbrev pub can-add : List AccountLine → ℤ → Bool
-can-add xs a = account-fits a && ltb (length xs) 32 && not (isSome (lines-of xs a))
-
--- x for one account, and what f says for the others
-abbrev pub with-entry : {X : Type 0} → (ℤ → Option X) → ℤ → X → ℤ → Option X
-with-entry f a x = λ b. cond (eqZ a b) (Some x) (f b)
+can-add xs a = account-fits a && has-place xs (lines-of xs a)
 
 -- the rows xs with a new account become ys
 abbrev pub Added : List AccountLine → ℤ → ℕ → List AccountLine → Type 0

@@ -5,6 +5,8 @@ pub mod account_centre;
 pub mod account_rule;
 pub mod cause;
 pub mod centre;
+pub mod firm_cap;
+pub mod firm_table;
 pub mod grant;
 pub mod ledger;
 pub mod line;
