@@ -14,15 +14,22 @@ use crate::centre::Unsettled;
 use crate::grant::Grant;
 use crate::ledger::Ledger;
 use crate::line::Line;
+use crate::position::Position;
+use crate::prepaid::Prepaid;
 use crate::side::Side;
 use std::alloc::AllocError;
 use std::alloc::Global;
 
+// The account of a row is judged by the rule R, at the allowance that the house set for it.
 #[derive(Drop)]
 pub struct AccountCentre<R> {
     rule: R,
     ledger: Ledger,
 }
+
+pub type PrepaidCentre = AccountCentre<Prepaid>;
+
+pub type PositionCentre = AccountCentre<Position>;
 
 impl<R: AccountRule + Drop> AccountCentre<R> {
     // A centre with no accounts, and room for 32. This is the last time that it asks for memory.
@@ -43,6 +50,13 @@ impl<R: AccountRule + Drop> AccountCentre<R> {
         Ok(())
     }
 
+    // The deposit or the limit of an account, where it has a line.
+    pub fn allowance(&self, account: i64) -> Option<u64>
+        ensures { λ r. ⌜ r ≡ allowances-of (vec-items (now (self .entry) .ledger .rows)) account ⌝ }
+    {
+        self.ledger.allowance(account)
+    }
+
     // Where the account's row is, if the lots would be reserved.
     fn judge(&self, account: i64, side: Side, lots: u64) -> Result<usize, Denial>
         ensures { λ r. ⌜ Judged (R·AccountRule .admits (now (self .entry) .rule)) (vec-items (now (self .entry) .ledger .rows)) account side lots r ⌝ }
@@ -61,7 +75,7 @@ impl<R: AccountRule + Drop> AccountCentre<R> {
     }
 }
 
-pub impl<R: AccountRule + Drop> Centre for AccountCentre<R> as AccountCentreCentre {
+pub impl<R: AccountRule + Drop> Centre for AccountCentre<R> as CentreByAccount {
     ghost lines = { λ s. lines-of (vec-items (s .ledger .rows)) };
 
     ghost own = { λ s. account-own (R·AccountRule .admits (s .rule)) (allowances-of (vec-items (s .ledger .rows))) };

@@ -38,6 +38,18 @@ impl<C: Centre + Drop> FirmCap<C> {
         (below, firms)
     }
 
+    pub fn below(&self) -> &C
+        ensures { λ r. ⌜ now r ≡ now (self .entry) .below ⌝ }
+    {
+        &self.below
+    }
+
+    pub fn firms(&self) -> &FirmTable
+        ensures { λ r. ⌜ now r ≡ now (self .entry) .firms ⌝ }
+    {
+        &self.firms
+    }
+
     // The depth of this layer.
     fn layer(&self) -> u8
         ensures { λ r. ⌜ r ≡ min (C·Centre .depth (now (self .entry) .below) + 1) 99 ⌝ }

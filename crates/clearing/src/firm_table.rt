@@ -38,7 +38,7 @@ pub impl Standing<Member> for ByAccount as MembersByAccount {
 }
 
 // Firms are numbered from 1 to 8.
-pub fn is_firm(firm: u64) -> bool
+fn is_firm(firm: u64) -> bool
     ensures { λ r. ⌜ r ≡ firm-fits firm ⌝ }
 {
     1 <= firm && firm <= 8
@@ -104,7 +104,7 @@ impl FirmTable {
     }
 
     // Places an account that is in no firm yet; false where it can't be had.
-    pub fn place(&mut self, account: i64, firm: u64) -> bool
+    pub(crate) fn place(&mut self, account: i64, firm: u64) -> bool
         ensures test { λ r. ⌜ r ≡ can-place (vec-items (now (self .entry) .members)) account firm ⌝ }
         ensures placed { λ r. ⌜ (r ≡ true → Placed (vec-items (now (self .entry) .members)) account firm (vec-items (now (self .exit) .members))) ⌝ }
         ensures caps { λ r. ⌜ now (self .exit) .caps ≡ now (self .entry) .caps ⌝ }
@@ -117,7 +117,7 @@ impl FirmTable {
     }
 
     // Sets the cap of a firm to 0 to 999,999,999; false where the firm or the cap can't be had.
-    pub fn set_cap(&mut self, firm: u64, cap: u64) -> bool
+    pub(crate) fn set_cap(&mut self, firm: u64, cap: u64) -> bool
         ensures test { λ r. ⌜ r ≡ (firm-fits firm && cap-fits cap) ⌝ }
         ensures capped { λ r. ⌜ (r ≡ true → now (self .exit) .caps ≡ set (now (self .entry) .caps) (firm - 1) cap) ⌝ }
         ensures members { λ r. ⌜ now (self .exit) .members ≡ now (self .entry) .members ⌝ }

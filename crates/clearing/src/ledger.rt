@@ -1,10 +1,10 @@
 // The lines of a centre's accounts, kept in one row by account, each with the number that the house set for it.
 ghost use Prim.Native.Nat.{_<_, _≤_};
 ghost use Rattle.clearing.specs.Centre.{holds};
-ghost use Rattle.clearing.specs.Ledger.{Added, Adjusted, Holder, Moved, account-before, account-of, can-add, lines-of, sound-row};
+ghost use Rattle.clearing.specs.Ledger.{Added, Adjusted, Holder, Moved, account-before, account-of, allowances-of, can-add, lines-of, sound-row};
 ghost use Rattle.clearing.specs.Line.{hold, in-range, release, settle, sound-line};
 ghost use Rattle.clearing.specs.declared.ledger.AccountLine.{AccountLine};
-ghost use Rattle.ordered.specs.Row.{Found, in-order};
+ghost use Rattle.ordered.specs.Row.{Found, at-key, in-order};
 ghost use Rattle.std.specs.Of.Vec.{vec-cap, vec-items, vec-len};
 ghost use Rattle.std.specs.Vec.{made};
 ghost use Rattle.std.specs.declared.option.Option.the-variants.{Some};
@@ -60,7 +60,7 @@ pub struct Ledger {
 }
 
 impl Ledger {
-    pub fn new(heap: Global) -> Result<Ledger, AllocError>
+    pub(crate) fn new(heap: Global) -> Result<Ledger, AllocError>
         ensures { λ r. ⌜ made r (λ l. vec-items (l .rows) ≡ []) ⌝ }
     {
         let rows = Vec::with_capacity(heap, 32)?;
@@ -83,12 +83,32 @@ impl Ledger {
         self.rows[at]
     }
 
-    // The line of an account, where it has one.
-    pub fn line(&self, account: i64) -> Option<Line>
-        ensures { λ r. ⌜ r ≡ lines-of (vec-items (now (self .entry) .rows)) account ⌝ }
+    // The row of an account, where it has one.
+    fn lookup(&self, account: i64) -> Option<AccountLine>
+        ensures { λ r. ⌜ r ≡ at-key account-of (vec-items (now (self .entry) .rows)) account ⌝ }
     {
         let at = self.place(account)?;
-        Some(self.row(at).line)
+        Some(self.row(at))
+    }
+
+    // The line of an account, where it has one.
+    pub(crate) fn line(&self, account: i64) -> Option<Line>
+        ensures { λ r. ⌜ r ≡ lines-of (vec-items (now (self .entry) .rows)) account ⌝ }
+    {
+        match self.lookup(account) {
+            Some(row) => Some(row.line),
+            None => None,
+        }
+    }
+
+    // The allowance of an account, where it has a row.
+    pub(crate) fn allowance(&self, account: i64) -> Option<u64>
+        ensures { λ r. ⌜ r ≡ allowances-of (vec-items (now (self .entry) .rows)) account ⌝ }
+    {
+        match self.lookup(account) {
+            Some(row) => Some(row.allowance),
+            None => None,
+        }
     }
 
     // Another line for the account of a row. No other line moves, and no allowance.
@@ -157,7 +177,7 @@ impl Ledger {
     }
 
     // Adds an account from 1 to 999,999 that has no row yet, with nothing held or settled; false where it can't be had.
-    pub fn add(&mut self, account: i64, allowance: u64) -> bool
+    pub(crate) fn add(&mut self, account: i64, allowance: u64) -> bool
         ensures test { λ r. ⌜ r ≡ can-add (vec-items (now (self .entry) .rows)) account ⌝ }
         ensures added { λ r. ⌜ (r ≡ true → Added (vec-items (now (self .entry) .rows)) account allowance (vec-items (now (self .exit) .rows))) ⌝ }
         ensures same { λ r. ⌜ (r ≡ false → now (self .exit) ≡ now (self .entry)) ⌝ }

@@ -1,6 +1,6 @@
 // The clearing side of the engine: what a centre keeps for each account, what it allows, and what becomes of lots that
 // were reserved.
-pub mod account;
+mod account;
 pub mod account_centre;
 pub mod account_rule;
 pub mod cause;
@@ -8,7 +8,7 @@ pub mod centre;
 pub mod firm_cap;
 pub mod firm_table;
 pub mod grant;
-pub mod ledger;
+mod ledger;
 pub mod line;
 pub mod position;
 pub mod prepaid;

@@ -55,7 +55,7 @@ impl Line {
     }
 
     // The line with other counts on one side.
-    pub fn with_side(&self, side: Side, counts: Counts) -> Line
+    pub(crate) fn with_side(&self, side: Side, counts: Counts) -> Line
         ensures { λ r. ⌜ r ≡ with-side side counts (now (self .entry)) ⌝ }
     {
         match side {
@@ -65,7 +65,7 @@ impl Line {
     }
 
     // Whether new lots are 1 to 1,000,000 and leave the side's sum within its maximum.
-    pub fn has_room(&self, side: Side, lots: u64) -> bool
+    pub(crate) fn has_room(&self, side: Side, lots: u64) -> bool
         ensures { λ r. ⌜ r ≡ in-range side lots (now (self .entry)) ⌝ }
     {
         1 <= lots && lots <= 1_000_000 && self.on(side).sum() + lots as u128 <= 999_999_999

@@ -4,7 +4,7 @@ use Rattle.std.specs.declared.result.Result.the-variants.{Ok}
 use Rattle.clearing.specs.AccountCentre.{Judged, account-own}
 use Rattle.clearing.specs.Grant.{grant-of}
 use Rattle.clearing.proofs.Passed.{passed}
-use Rattle.clearing.proofs.account_centre.AccountCentreCentre.reserve.Needs as need
+use Rattle.clearing.proofs.account_centre.CentreByAccount.reserve.Needs as need
 
 pub returns-in-Ok : need.returns-in-Ok
 returns-in-Ok g c =
