@@ -27,14 +27,14 @@ use Rattle.clearing.proofs.Seen.{has-place-parts, seen-found, seen-set, seen-s
 lines-put : (xs : List AccountLine) (i : ℕ) (x : AccountLine) (l : Line) → Found account-of xs (x .account) (Some i) → lines-of (set xs i (with-line x l)) ≡ adjusted (lines-of xs) (x .account) (λ _. l)
 lines-put xs i x l found =
     fun-ext (λ k. elim (cases-bool (eqZ (x .account) k)) [
-      inl e ↦
-        let there : lines-of xs k ≡ Some (getD xs i x .line) =
-            subst (λ b. lines-of xs b ≡ Some (getD xs i x .line)) (eqZ-true (x .account) k e) (seen-found account-of (λ r. r .line) xs (x .account) i found x) in
-        seen-set account-of (λ r. r .line) xs i (with-line x l) found k ∙ cond-true (eqZ (x .account) k) _ _ e
-        ∙ sym (cond-true (eqZ (x .account) k) _ _ e ∙ ap (mapped (λ _. l)) there)
-    | inr e ↦
-        seen-set account-of (λ r. r .line) xs i (with-line x l) found k ∙ cond-false (eqZ (x .account) k) _ _ e
-        ∙ sym (cond-false (eqZ (x .account) k) _ _ e)
+      | inl e ↦
+          let there : lines-of xs k ≡ Some (getD xs i x .line) =
+          subst (λ b. lines-of xs b ≡ Some (getD xs i x .line)) (eqZ-true (x .account) k e) (seen-found account-of (λ r. r .line) xs (x .account) i found x) in
+          seen-set account-of (λ r. r .line) xs i (with-line x l) found k ∙ cond-true (eqZ (x .account) k) _ _ e
+          ∙ sym (cond-true (eqZ (x .account) k) _ _ e ∙ ap (mapped (λ _. l)) there)
+      | inr e ↦
+          seen-set account-of (λ r. r .line) xs i (with-line x l) found k ∙ cond-false (eqZ (x .account) k) _ _ e
+          ∙ sym (cond-false (eqZ (x .account) k) _ _ e)
     ])
 
 -- the row x at a place gets another line
@@ -50,11 +50,14 @@ moved-row xs i x l read a found =
 pub adjusted-row : (xs ys : List AccountLine) (i : ℕ) (a : ℤ) (f : Line → Line) (x : AccountLine) (l : Line) → Found account-of xs a (Some i) → x ≡ getD xs i x → l ≡ f (x .line) → Moved xs a l ys → Adjusted xs a f ys
 adjusted-row xs ys i a f x l found read is (lines, allowances, long) =
     let had : lines-of xs a ≡ Some (x .line) = seen-found account-of (λ r. r .line) xs a i found x ∙ ap (λ r. Some (r .line)) (sym read) in
-    let at : mapped (λ _. l) (lines-of xs a) ≡ mapped f (lines-of xs a) = ap (mapped (λ _. l)) had ∙ ap Some is ∙ sym (ap (mapped f) had) in
-    (lines ∙ fun-ext (λ b. elim (cases-bool (eqZ a b)) [
-      inl e ↦ cond-true (eqZ a b) _ _ e ∙ subst (λ k. mapped (λ _. l) (lines-of xs k) ≡ mapped f (lines-of xs k)) (eqZ-true a b e) at ∙ sym (cond-true (eqZ a b) _ _ e)
-    | inr e ↦ cond-false (eqZ a b) _ _ e ∙ sym (cond-false (eqZ a b) _ _ e)
-    ]), allowances, long)
+    let at : mapped (λ _. l) (lines-of xs a) ≡ mapped f (lines-of xs a) = ap (mapped (λ _. l)) had ∙ ap Some is ∙ sym (ap (mapped f) had) in (
+      lines ∙ fun-ext (λ b. elim (cases-bool (eqZ a b)) [
+        | inl e ↦ cond-true (eqZ a b) _ _ e ∙ subst (λ k. mapped (λ _. l) (lines-of xs k) ≡ mapped f (lines-of xs k)) (eqZ-true a b e) at ∙ sym (cond-true (eqZ a b) _ _ e)
+        | inr e ↦ cond-false (eqZ a b) _ _ e ∙ sym (cond-false (eqZ a b) _ _ e)
+      ]),
+      allowances,
+      long,
+    )
 
 -- what the row of an account tells of the lots that it holds
 pub holds-row : (xs : List AccountLine) (i : ℕ) (a : ℤ) (s : Side) (n : ℕ) (x : AccountLine) → Found account-of xs a (Some i) → x ≡ getD xs i x → holds (lines-of xs a) s n ≡ leb n (on s (x .line) .held)

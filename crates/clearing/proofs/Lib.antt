@@ -1,6 +1,5 @@
 pub mod Joins
 pub mod Ledgers
-pub mod Members
 pub mod Passed
 pub mod Seen
 pub mod Verdicts

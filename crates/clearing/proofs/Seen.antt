@@ -52,11 +52,11 @@ module _ {X Y : Type 0} (key : X → ℤ) (f : X → Y) where
   pub seen-same : (xs : List X) (i : ℕ) (y : X) → Found key xs (key y) (Some i) → f y ≡ f (getD xs i y) → seen key f (set xs i y) ≡ seen key f xs
   seen-same xs i y found same =
       fun-ext (λ k. elim (cases-bool (eqZ (key y) k)) [
-        inl e ↦
-          let there : seen key f xs k ≡ Some (f (getD xs i y)) =
-              subst (λ b. seen key f xs b ≡ Some (f (getD xs i y))) (eqZ-true (key y) k e) (seen-found xs (key y) i found y) in
-          seen-set xs i y found k ∙ cond-true (eqZ (key y) k) _ _ e ∙ ap Some same ∙ sym there
-      | inr e ↦ seen-set xs i y found k ∙ cond-false (eqZ (key y) k) _ _ e
+        | inl e ↦
+            let there : seen key f xs k ≡ Some (f (getD xs i y)) =
+            subst (λ b. seen key f xs b ≡ Some (f (getD xs i y))) (eqZ-true (key y) k e) (seen-found xs (key y) i found y) in
+            seen-set xs i y found k ∙ cond-true (eqZ (key y) k) _ _ e ∙ ap Some same ∙ sym there
+        | inr e ↦ seen-set xs i y found k ∙ cond-false (eqZ (key y) k) _ _ e
       ])
 
   -- an item with a new key is added

@@ -2,11 +2,8 @@ pub mod Account
 pub mod AccountCentre
 pub mod Cause
 pub mod Centre
-pub mod FirmCap
-pub mod Firms
 pub mod Grant
 pub mod Ledger
 pub mod Line
-pub mod Rules
 pub mod Side
 pub mod Table

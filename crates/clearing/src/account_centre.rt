@@ -14,8 +14,6 @@ use crate::centre::Unsettled;
 use crate::grant::Grant;
 use crate::ledger::Ledger;
 use crate::line::Line;
-use crate::position::Position;
-use crate::prepaid::Prepaid;
 use crate::side::Side;
 use std::alloc::AllocError;
 use std::alloc::Global;
@@ -26,10 +24,6 @@ pub struct AccountCentre<R> {
     rule: R,
     ledger: Ledger,
 }
-
-pub type PrepaidCentre = AccountCentre<Prepaid>;
-
-pub type PositionCentre = AccountCentre<Position>;
 
 impl<R: AccountRule + Drop> AccountCentre<R> {
     // A centre with no accounts, and room for 32. This is the last time that it asks for memory.
@@ -112,7 +106,8 @@ pub impl<R: AccountRule + Drop> Centre for AccountCentre<R> as CentreByAccount {
     }
 
     fn give_back(&mut self, grant: Grant) -> Result<(), Denial> {
-        let released = self.ledger.release(grant.account(), grant.side(), grant.lots());
+        let released = self.ledger
+            .release(grant.account(), grant.side(), grant.lots());
         grant.spend();
         if released {
             Ok(())

@@ -17,7 +17,11 @@ impl Grant {
     pub(crate) fn new(account: i64, side: Side, lots: u64) -> Grant
         ensures { λ r. ⌜ r ≡ grant-of account side lots ⌝ }
     {
-        Grant { account, side, lots }
+        Grant {
+            account,
+            side,
+            lots,
+        }
     }
 
     pub fn account(&self) -> i64
@@ -43,22 +47,41 @@ impl Grant {
         requires { ⌜ lots ≤ self .lots ⌝ }
         ensures { λ r. ⌜ r ≡ grant-of (self .account) (self .side) (self .lots - lots) ⌝ }
     {
-        let Grant { account, side, lots: all } = self;
-        Grant { account, side, lots: all - lots }
+        let Grant {
+            account,
+            side,
+            lots: all,
+        } = self;
+        Grant {
+            account,
+            side,
+            lots: all - lots,
+        }
     }
 
     // The end of a grant whose lots are given back.
-    pub(crate) fn spend(self)
-    {
-        let Grant { account: _, side: _, lots: _ } = self;
+    pub(crate) fn spend(self) {
+        let Grant {
+            account: _,
+            side: _,
+            lots: _,
+        } = self;
     }
 
     // Puts the lots to rest, as part of an order.
     pub fn rest(self) -> Resting
         ensures { λ r. ⌜ r ≡ at-rest self ⌝ }
     {
-        let Grant { account, side, lots } = self;
-        Resting { account, side, lots }
+        let Grant {
+            account,
+            side,
+            lots,
+        } = self;
+        Resting {
+            account,
+            side,
+            lots,
+        }
     }
 }
 
@@ -66,7 +89,11 @@ impl Drop for Grant {
     fn drop(self)
         requires { ⌜ self .lots ≡ 0 ⌝ }
     {
-        let Grant { account: _, side: _, lots: _ } = self;
+        let Grant {
+            account: _,
+            side: _,
+            lots: _,
+        } = self;
     }
 }
 

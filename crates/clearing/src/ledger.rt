@@ -186,7 +186,11 @@ impl Ledger {
             return false;
         }
         let line = Line::new();
-        let row = AccountLine { account, allowance, line };
+        let row = AccountLine {
+            account,
+            allowance,
+            line,
+        };
         add(&ByAccount, &mut self.rows, row).is_ok()
     }
 }

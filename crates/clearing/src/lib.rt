@@ -1,15 +1,11 @@
 // The clearing side of the engine: what a centre keeps for each account, what it allows, and what becomes of lots that
 // were reserved.
-mod account;
+pub mod account;
 pub mod account_centre;
 pub mod account_rule;
 pub mod cause;
 pub mod centre;
-pub mod firm_cap;
-pub mod firm_table;
 pub mod grant;
 mod ledger;
 pub mod line;
-pub mod position;
-pub mod prepaid;
 pub mod side;

@@ -33,8 +33,14 @@ impl Line {
     pub fn new() -> Line
         ensures { λ r. ⌜ r ≡ empty ⌝ }
     {
-        let none = Counts { held: 0, settled: 0 };
-        Line { buy: none, sell: none }
+        let none = Counts {
+            held: 0,
+            settled: 0,
+        };
+        Line {
+            buy: none,
+            sell: none,
+        }
     }
 
     pub fn on(&self, side: Side) -> Counts
@@ -59,8 +65,14 @@ impl Line {
         ensures { λ r. ⌜ r ≡ with-side side counts (now (self .entry)) ⌝ }
     {
         match side {
-            Side::Buy => Line { buy: counts, sell: self.sell },
-            Side::Sell => Line { buy: self.buy, sell: counts },
+            Side::Buy => Line {
+                buy: counts,
+                sell: self.sell,
+            },
+            Side::Sell => Line {
+                buy: self.buy,
+                sell: counts,
+            },
         }
     }
 
@@ -80,7 +92,13 @@ impl Line {
     {
         let counts = self.on(side);
         let held = counts.held + lots;
-        self.with_side(side, Counts { held, settled: counts.settled })
+        self.with_side(
+            side,
+            Counts {
+                held,
+                settled: counts.settled,
+            },
+        )
     }
 
     // Lots go from held to settled.
@@ -105,6 +123,12 @@ impl Line {
     {
         let counts = self.on(side);
         let held = counts.held - lots;
-        self.with_side(side, Counts { held, settled: counts.settled })
+        self.with_side(
+            side,
+            Counts {
+                held,
+                settled: counts.settled,
+            },
+        )
     }
 }

@@ -11,10 +11,10 @@ use Rattle.ordered.proofs.kept.add.Needs as need
 pub returns : need.returns
 returns g c =
     let row : c .as-mut-slice .result .now ≡ vec-items (c .args .row .now) ++ c .args .item ∷ [] =
-        c .as-mut-slice .ensures .value ∙ c .push-reserved .ensures .items in
+    c .as-mut-slice .ensures .value ∙ c .push-reserved .ensures .items in
     let moved = c .insert .ensures .after _ _ row in
     let long : length (c .insert .last .row) ≡ c .push-reserved .last .self .len =
-        c .insert .kept .row ∙ c .as-mut-slice .ensures .len in
+    c .insert .kept .row ∙ c .as-mut-slice .ensures .len in
     let kept = refilled-is (c .push-reserved .last .self) (c .insert .last .row) long in
     record {
       added = (omega arith, moved .0, kept ∙ moved .1, c .push-reserved .ensures .len, c .push-reserved .ensures .capacity);

@@ -18,7 +18,7 @@ returns g c =
     let kept = refilled-is v (c .remove .last .row) long in
     let popped = sym (kept ∙ moved) ∙ c .pop .ensures .items in
     let rest : (before : g .T .Denot → g .T .Denot → Bool) → in-order before (v .items) ≡ true → in-order before (take (v .len - 1) (to-end (v .items) (c .args .at))) ≡ true =
-        λ before o. ap (λ n. in-order before (take (n - 1) (to-end (v .items) (c .args .at)))) (v .ok .0) ∙ in-order-to-end before (v .items) (c .args .at) o in
+    λ before o. ap (λ n. in-order before (take (n - 1) (to-end (v .items) (c .args .at)))) (v .ok .0) ∙ in-order-to-end before (v .items) (c .args .at) o in
     record {
       taken = taken-from-end v (c .pop .last .self) (c .args .at) (c .pop .result) (omega arith) popped (c .pop .ensures .test) (c .pop .ensures .len) (c .pop .ensures .capacity);
       ordered = λ before o. ap (in-order before) (c .pop .ensures .places .1 ∙ ap (take (v .len - 1)) (kept ∙ moved)) ∙ rest before o;

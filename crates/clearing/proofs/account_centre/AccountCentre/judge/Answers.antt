@@ -38,9 +38,10 @@ returns-then-not-admits g c =
 pub returns : need.returns
 returns g c =
     let rows = c .args .self .now .ledger .rows .items in
-    let found = passed (λ a. Found account-of rows a (Some (c .in-Some .at))) (c .args .account) (c .fits .account) (c .in-Some .ensures tt) in
-    (found
-    , λ d. subst (λ x. in-range (c .args .side) (c .args .lots) (x .line) ≡ true) (getD-read rows (c .in-Some .at) (c .row-row .result) (found .0) (c .row-row .ensures .value) d) (sym (c .if-not-has-room .ensures tt))
-    , verdict-row _ rows (c .args .account) (c .args .side) (c .args .lots) (c .in-Some .at) (c .row-row .result) found (c .row-row .ensures .value)
-      ∙ cond-true _ _ _ (sym (c .if-not-has-room .ensures tt))
-      ∙ cond-true _ _ _ (sym (c .if-not-admits .ensures tt)))
+    let found = passed (λ a. Found account-of rows a (Some (c .in-Some .at))) (c .args .account) (c .fits .account) (c .in-Some .ensures tt) in (
+      found,
+      λ d. subst (λ x. in-range (c .args .side) (c .args .lots) (x .line) ≡ true) (getD-read rows (c .in-Some .at) (c .row-row .result) (found .0) (c .row-row .ensures .value) d) (sym (c .if-not-has-room .ensures tt)),
+      verdict-row _ rows (c .args .account) (c .args .side) (c .args .lots) (c .in-Some .at) (c .row-row .result) found (c .row-row .ensures .value)
+          ∙ cond-true _ _ _ (sym (c .if-not-has-room .ensures tt))
+          ∙ cond-true _ _ _ (sym (c .if-not-admits .ensures tt)),
+    )

@@ -33,7 +33,8 @@ pub returns : need.returns
 returns c =
     let rows = c .args .self .now .rows .items in
     let found = passed (λ a. Found account-of rows a (Some (c .in-Continue-at .at))) (c .args .account) (c .fits .account) (c .in-Continue-at .ensures tt) in
-    let holding : c .args .lots ≤ on (c .args .side) (c .row .result .line) .held = omega (arith, c .if-lots-on .left, ap (λ x. x .held) (c .on .ensures)) in
-    (found
-    , holds-row rows (c .in-Continue-at .at) (c .args .account) (c .args .side) (c .args .lots) (c .row .result) found (c .row .ensures .value) ∙ le-leb _ _ holding
-    , λ d. subst (λ x. c .args .lots ≤ on (c .args .side) (x .line) .held) (getD-read rows (c .in-Continue-at .at) (c .row .result) (found .0) (c .row .ensures .value) d) holding)
+    let holding : c .args .lots ≤ on (c .args .side) (c .row .result .line) .held = omega (arith, c .if-lots-on .left, ap (λ x. x .held) (c .on .ensures)) in (
+      found,
+      holds-row rows (c .in-Continue-at .at) (c .args .account) (c .args .side) (c .args .lots) (c .row .result) found (c .row .ensures .value) ∙ le-leb _ _ holding,
+      λ d. subst (λ x. c .args .lots ≤ on (c .args .side) (x .line) .held) (getD-read rows (c .in-Continue-at .at) (c .row .result) (found .0) (c .row .ensures .value) d) holding,
+    )

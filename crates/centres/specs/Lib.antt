@@ -1,0 +1,3 @@
+pub mod FirmCap
+pub mod Firms
+pub mod Rules
