@@ -38,18 +38,6 @@ impl<C: Centre + Drop> FirmCap<C> {
         (below, firms)
     }
 
-    pub fn below(&self) -> &C
-        ensures { λ r. ⌜ now r ≡ now (self .entry) .below ⌝ }
-    {
-        &self.below
-    }
-
-    pub fn firms(&self) -> &FirmTable
-        ensures { λ r. ⌜ now r ≡ now (self .entry) .firms ⌝ }
-    {
-        &self.firms
-    }
-
     // The depth of this layer.
     fn layer(&self) -> u8
         ensures { λ r. ⌜ r ≡ min (C·Centre .depth (now (self .entry) .below) + 1) 99 ⌝ }
@@ -127,11 +115,13 @@ pub impl<C: Centre + Drop> Centre for FirmCap<C> as FirmCapCentre {
     }
 
     fn question(&self, account: i64, side: Side, lots: u64) -> Result<(), Denial> {
-        self.below.question(account, side, lots)?;
-        if self.is_over(account, lots) {
-            return Err(Denial::new(Cause::OverFirmCap, self.layer()));
+        match self.below.question(account, side, lots) {
+            Ok(()) if self.is_over(account, lots) => Err(Denial::new(
+                Cause::OverFirmCap,
+                self.layer(),
+            )),
+            answer => answer,
         }
-        Ok(())
     }
 
     fn reserve(&mut self, account: i64, side: Side, lots: u64) -> Result<Grant, Denial> {

@@ -1,7 +1,7 @@
 // Which accounts belong to which firm, and how many lots each firm may come to.
 ghost use Prim.Native.Nat.{_-_, _≤_};
 ghost use Rattle.centres.specs.Firms.{Placed, can-place, cap-fits, cap-of, firm-fits, firm-of, member-account, member-before};
-ghost use Rattle.ordered.specs.Row.{Found, in-order};
+ghost use Rattle.ordered.specs.Row.{at-key, in-order};
 ghost use Rattle.std.specs.Of.Vec.{vec-cap, vec-items, vec-len};
 ghost use Rattle.std.specs.Vec.{made};
 ghost use lib.ListN.{length, replicate, set};
@@ -77,19 +77,22 @@ impl FirmTable {
         self.members.as_slice()
     }
 
-    // Where the account's member is.
-    fn find(&self, account: i64) -> Option<usize>
-        ensures { λ r. ⌜ Found member-account (vec-items (now (self .entry) .members)) account r ⌝ }
+    // The member of an account, where there is one.
+    fn member(&self, account: i64) -> Option<Member>
+        ensures { λ r. ⌜ r ≡ at-key member-account (vec-items (now (self .entry) .members)) account ⌝ }
     {
-        find(&ByAccount, self.members.as_slice(), account)
+        let at = find(&ByAccount, self.members(), account)?;
+        Some(self.members[at])
     }
 
     // The firm of an account, where it is in one.
     pub fn firm(&self, account: i64) -> Option<u64>
         ensures { λ r. ⌜ r ≡ firm-of (vec-items (now (self .entry) .members)) account ⌝ }
     {
-        let at = self.find(account)?;
-        Some(self.members[at].firm)
+        match self.member(account) {
+            Some(member) => Some(member.firm),
+            None => None,
+        }
     }
 
     // The cap of a firm; 0 where there is no such firm.

@@ -48,7 +48,8 @@ pub impl AccountRule for Prepaid as PrepaidRule {
 
     fn admits(&self, allowance: u64, line: &Line, _side: Side, lots: u64) -> bool {
         let all = line.total() + lots as u128;
-        self.margin as u128 * all <= allowance as u128
+        let margin = self.margin as u128;
+        margin * all <= allowance as u128
     }
 
     fn top() -> u64 {

@@ -5,7 +5,7 @@ use lib.IntN.{ℤ}
 use Rattle.std.specs.declared.option.Option.{Option}
 use Rattle.std.specs.declared.option.Option.the-variants.{Some, None}
 use Rattle.clearing.specs.declared.grant.Grant.{Grant}
-use Rattle.clearing.specs.declared.grant.Resting.{Resting}
+use Rattle.clearing.specs.declared.resting.Resting.{Resting}
 use Rattle.clearing.specs.declared.side.Side.{Side}
 
 abbrev pub grant-of : ℤ → Side → ℕ → Grant

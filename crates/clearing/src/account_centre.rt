@@ -1,9 +1,12 @@
 // A centre over a rule that judges each account by its own line: prepaid, or by position.
 ghost use Prim.Native.Nat.{ℕ};
 ghost use Rattle.clearing.specs.AccountCentre.{AddedTo, Judged, account-own};
-ghost use Rattle.clearing.specs.Ledger.{allowances-of, lines-of};
+ghost use Rattle.clearing.specs.Grant.{grant-of};
+ghost use Rattle.clearing.specs.Ledger.{Adjusted, allowances-of, lines-of};
+ghost use Rattle.clearing.specs.Line.{hold};
 ghost use Rattle.std.specs.Of.Vec.{vec-items};
 ghost use Rattle.std.specs.Vec.{made};
+ghost use Rattle.std.specs.declared.result.Result.the-variants.{Ok};
 ghost use mathlib.Core.List.{[]};
 ghost use mathlib.Core.Path.{_≡_};
 use crate::account_rule::AccountRule;
@@ -67,6 +70,17 @@ impl<R: AccountRule + Drop> AccountCentre<R> {
         }
         Ok(at)
     }
+
+    // Holds lots that were judged, and makes the grant for them.
+    fn hold(&mut self, at: usize, account: i64, side: Side, lots: u64) -> Grant
+        requires { ⌜ Judged (R·AccountRule .admits (now self .rule)) (vec-items (now self .ledger .rows)) account side lots (Ok at) ⌝ }
+        ensures grant { λ r. ⌜ r ≡ grant-of account side lots ⌝ }
+        ensures held { λ _. ⌜ Adjusted (vec-items (now (self .entry) .ledger .rows)) account (hold side lots) (vec-items (now (self .exit) .ledger .rows)) ⌝ }
+        ensures rule { λ _. ⌜ now (self .exit) .rule ≡ now (self .entry) .rule ⌝ }
+    {
+        self.ledger.hold(at, side, lots);
+        Grant::new(account, side, lots)
+    }
 }
 
 pub impl<R: AccountRule + Drop> Centre for AccountCentre<R> as CentreByAccount {
@@ -89,10 +103,7 @@ pub impl<R: AccountRule + Drop> Centre for AccountCentre<R> as CentreByAccount {
 
     fn reserve(&mut self, account: i64, side: Side, lots: u64) -> Result<Grant, Denial> {
         match self.judge(account, side, lots) {
-            Ok(at) => {
-                self.ledger.hold(at, side, lots);
-                Ok(Grant::new(account, side, lots))
-            }
+            Ok(at) => Ok(self.hold(at, account, side, lots)),
             Err(denial) => Err(denial),
         }
     }

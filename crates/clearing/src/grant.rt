@@ -1,8 +1,8 @@
 // Lots that a centre holds for an account, as a token that can't be lost.
-ghost use Prim.Native.Nat.{_-_, _<_, _≤_};
-ghost use Rattle.clearing.specs.Grant.{CalledUp, at-rest, grant-of};
-ghost use lib.IntN.{ℤ};
+ghost use Prim.Native.Nat.{_-_, _≤_};
+ghost use Rattle.clearing.specs.Grant.{at-rest, grant-of};
 ghost use mathlib.Core.Path.{_≡_};
+use crate::resting::Resting;
 use crate::side::Side;
 
 // A grant: lots of an account and side that are held and belong to no order yet. It comes from a reservation or out of
@@ -77,11 +77,7 @@ impl Grant {
             side,
             lots,
         } = self;
-        Resting {
-            account,
-            side,
-            lots,
-        }
+        Resting::new(account, side, lots)
     }
 }
 
@@ -94,45 +90,5 @@ impl Drop for Grant {
             side: _,
             lots: _,
         } = self;
-    }
-}
-
-// The lots of a resting order: what a grant becomes when it is put to rest. Neither can be copied, so each lot that is
-// held is in one place. It goes with its order, and is let go only with it.
-#[derive(Drop)]
-pub struct Resting {
-    account: i64,
-    side: Side,
-    lots: u64,
-}
-
-impl Resting {
-    pub fn account(&self) -> i64
-        ensures { λ r. ⌜ r ≡ now (self .entry) .account ⌝ }
-    {
-        self.account
-    }
-
-    pub fn side(&self) -> Side
-        ensures { λ r. ⌜ r ≡ now (self .entry) .side ⌝ }
-    {
-        self.side
-    }
-
-    pub fn lots(&self) -> u64
-        ensures { λ r. ⌜ r ≡ now (self .entry) .lots ⌝ }
-    {
-        self.lots
-    }
-
-    // Calls lots up out of the order, which is lowered by them; none where it has fewer.
-    pub fn call_up(&mut self, lots: u64) -> Option<Grant>
-        ensures { λ r. ⌜ CalledUp (now (self .entry)) lots (now (self .exit)) r ⌝ }
-    {
-        if lots > self.lots {
-            return None;
-        }
-        self.lots -= lots;
-        Some(Grant::new(self.account, self.side, lots))
     }
 }

@@ -8,4 +8,5 @@ pub mod centre;
 pub mod grant;
 mod ledger;
 pub mod line;
+pub mod resting;
 pub mod side;

@@ -13,7 +13,7 @@ use Rattle.clearing.specs.Grant.{resting-of}
 use Rattle.clearing.specs.Line.{hold, release, settle}
 use Rattle.clearing.specs.declared.cause.Cause.the-variants.{NotHeld}
 use Rattle.clearing.specs.declared.cause.Denial.{Denial}
-use Rattle.clearing.specs.declared.grant.Resting.{Resting}
+use Rattle.clearing.specs.declared.resting.Resting.{Resting}
 use Rattle.clearing.specs.declared.side.Side.{Side}
 
 -- the lots of an entry rest, and are held on its account's line, exactly where the centre's question answers yes

@@ -4,7 +4,7 @@ ghost use mathlib.Core.Path.{_≡_};
 use clearing::cause::Cause;
 use clearing::cause::Denial;
 use clearing::centre::Centre;
-use clearing::grant::Resting;
+use clearing::resting::Resting;
 use clearing::side::Side;
 
 // Reserves the lots and puts them to rest.

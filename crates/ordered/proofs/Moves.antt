@@ -15,20 +15,26 @@ use Rattle.std.proofs.shelf.Tests.{cases-lt}
 use Rattle.ordered.specs.Row.{in-order, place, to-end}
 use Rattle.ordered.proofs.Orders.{in-order-removed, in-order-take}
 
--- the last item of a row rotated to its place among the others, by one
-pub last-to-place : {X : Type 0} (before : X → X → Bool) (row part now : List X) (at by : ℕ) → ((d : X) → at ≡ place before (take (length row - 1) row) (getD row (length row - 1) d)) → at ≤ length row - 1 → part ≡ take (length row - at) (drop at row) → now ≡ drop (length part - by) part ++ take (length part - by) part → by ≡ 1 → (xs : List X) (x : X) → row ≡ xs ++ x ∷ [] → (at ≡ place before xs x) × (putMid at (length row - at) row now ≡ inserted xs at x)
-last-to-place before row part now at by placed within cut turned one xs x is =
-    let n : length xs ≡ length row - 1 = omega (arith, ap length is, length-push xs x) in
-    let others : take (length row - 1) row ≡ xs = ap (take (length row - 1)) is ∙ take-at xs (x ∷ []) (length row - 1) n in
-    let last : getD row (length row - 1) x ≡ x = ap (λ l. getD l (length row - 1) x) is ∙ getD-push xs x x (length row - 1) n in
-    let h : at ≤ length xs = omega arith in
+-- the row of some items and one more, by its length: the others, and the last
+pub others-of : {X : Type 0} (row xs : List X) (x : X) → row ≡ xs ++ x ∷ [] → take (length row - 1) row ≡ xs
+others-of row xs x is =
+    ap (take (length row - 1)) is ∙ take-at xs (x ∷ []) (length row - 1) (omega (arith, ap length is, length-push xs x))
+
+pub last-of : {X : Type 0} (row xs : List X) (x d : X) → row ≡ xs ++ x ∷ [] → getD row (length row - 1) d ≡ x
+last-of row xs x d is =
+    ap (λ l. getD l (length row - 1) d) is ∙ getD-push xs x d (length row - 1) (omega (arith, ap length is, length-push xs x))
+
+-- the last item of a row rotated up to a place, by one
+pub last-to-place : {X : Type 0} (row part now : List X) (at : ℕ) → at ≤ length row - 1 → part ≡ take (length row - at) (drop at row) → now ≡ drop (length part - 1) part ++ take (length part - 1) part → (xs : List X) (x : X) → row ≡ xs ++ x ∷ [] → putMid at (length row - at) row now ≡ inserted xs at x
+last-to-place row part now at within cut turned xs x is =
+    let h : at ≤ length xs = omega (arith, ap length is, length-push xs x) in
     let whole : part ≡ drop at xs ++ x ∷ [] = cut ∙ take-rest row at ∙ ap (drop at) is ∙ drop-append-le at xs (x ∷ []) h in
-    let m : length (drop at xs) ≡ length (drop at xs ++ x ∷ []) - by = omega (arith, length-push (drop at xs) x) in
+    let m : length (drop at xs) ≡ length (drop at xs ++ x ∷ []) - 1 = omega (arith, length-push (drop at xs) x) in
     let front = drop-at (drop at xs) (x ∷ []) _ m in
     let back = take-at (drop at xs) (x ∷ []) _ m in
     let head : take at row ≡ take at xs = ap (take at) is ∙ take-append-le at xs (x ∷ []) h in
     let rest : drop (length row - at) (drop at row) ≡ [] = drop-all (length row - at) (drop at row) (omega (arith, length-drop at row)) in
-    (placed x ∙ ap₂ (place before) others last, cc (append-nil (x ∷ drop at xs)))
+    cc (append-nil (x ∷ drop at xs))
 
 -- the item at a place rotated to the end, by one
 pub place-to-end : {X : Type 0} (xs part now : List X) (at : ℕ) → part ≡ take (length xs - at) (drop at xs) → now ≡ drop 1 part ++ take 1 part → putMid at (length xs - at) xs now ≡ to-end xs at

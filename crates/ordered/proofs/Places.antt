@@ -2,15 +2,14 @@
 use Prim.Native.Nat.{ℕ, zero, suc, _+_, _<_, _≤_}
 use mathlib.Core.Bool.{Bool, true, false, cond}
 use mathlib.Core.List.{List, _∷_}
-use mathlib.Core.Path.{_≡_, sym, ap, subst₂, _∙_}
+use mathlib.Core.Path.{_≡_, sym, ap, subst, _∙_}
 use native.Mathlib.Omega.{arith}
 use lib.ListN.{length, drop, getD}
 use lib.IntN.{ℤ}
 use borrow.Author.Count.{below-more}
-use Rattle.std.specs.declared.option.Option.the-variants.{Some}
 use Rattle.std.proofs.shelf.Lists.{at-drop-more, at-drop-all, getD-read}
 use Rattle.ordered.specs.Key.{eqZ}
-use Rattle.ordered.specs.Row.{place, Lacks, Found}
+use Rattle.ordered.specs.Row.{place, Lacks, Scanned}
 use Rattle.ordered.proofs.Keys.{eqZ-true, eqZ-false}
 
 -- what is left of the row at i, by the item read there
@@ -41,12 +40,14 @@ module _ {X : Type 0} (key : X → ℤ) (xs : List X) (k : ℤ) where
   lacks-past i y z h read is f below j d l =
       below-more (λ m. key (getD xs m d) ≡ k → ⊥) i (λ m. below m d) (λ e. eqZ-false z k f (is ∙ ap key (getD-read xs i y h read d) ∙ e)) j l
 
-  -- an item y with the key is the first one, and j is its place
-  pub found-here : (i : ℕ) (y : X) (z : ℤ) → i < length xs → y ≡ getD xs i y → z ≡ key y → eqZ z k ≡ true → Lacks key xs k i → (w : ℤ) → k ≡ w → (j : ℕ) → j ≡ i → Found key xs w (Some j)
-  found-here i y z h read is t below w same j here =
-      let found : Found key xs k (Some i) = (h, λ d. ap key (sym (getD-read xs i y h read d)) ∙ sym is ∙ eqZ-true z k t, below) in
-      subst₂ (λ u m. Found key xs u (Some m)) same (sym here) found
+  -- the walk stops at an item y with the key
+  pub scanned-here : (i : ℕ) (y : X) (z : ℤ) → i < length xs → y ≡ getD xs i y → z ≡ key y → eqZ z k ≡ true → Lacks key xs k i → (w : ℤ) → k ≡ w → Scanned key xs w i
+  scanned-here i y z h read is t below w same =
+      let found : Scanned key xs k i = (omega arith, below, λ _ d. ap key (sym (getD-read xs i y h read d)) ∙ sym is ∙ eqZ-true z k t) in
+      subst (λ u. Scanned key xs u i) same found
 
-  -- with no item left, none has the key
-  pub lacks-all : (i : ℕ) → length xs ≤ i → Lacks key xs k i → (w : ℤ) → k ≡ w → Lacks key xs w (length xs)
-  lacks-all i h below w same j d l e = below j d (omega arith) (e ∙ sym same)
+  -- or at the end, where no item has it
+  pub scanned-all : (i : ℕ) → length xs ≤ i → Lacks key xs k i → (w : ℤ) → k ≡ w → Scanned key xs w (length xs)
+  scanned-all i h below w same =
+      let none : Scanned key xs k (length xs) = (omega arith, λ j d l. below j d (omega arith), λ l. absurd (omega arith)) in
+      subst (λ u. Scanned key xs u (length xs)) same none

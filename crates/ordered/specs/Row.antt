@@ -1,5 +1,5 @@
 -- The ordered row: a list of items from first to last, under a standing order `before`, each with a key. Assumes nothing.
-use Prim.Native.Nat.{ℕ, zero, suc, _<_}
+use Prim.Native.Nat.{ℕ, zero, suc, _<_, _≤_}
 use mathlib.Core.Bool.{Bool, true, cond, _&&_}
 use mathlib.Core.List.{List, [], _∷_, _++_}
 use mathlib.Core.Path.{_≡_}
@@ -32,6 +32,10 @@ to-end xs i = (take i xs ++ drop (suc i) xs) ++ take 1 (drop i xs)
 -- no item below the place n has the key k
 abbrev pub Lacks : {X : Type 0} → (X → ℤ) → List X → ℤ → ℕ → Type 0
 Lacks {X} key xs k n = (i : ℕ) (d : X) → i < n → key (getD xs i d) ≡ k → ⊥
+
+-- where a walk along the row stops: at the first item with the key, or at the end
+abbrev pub Scanned : {X : Type 0} → (X → ℤ) → List X → ℤ → ℕ → Type 0
+Scanned {X} key xs k i = (i ≤ length xs) × Lacks key xs k i × (i < length xs → (d : X) → key (getD xs i d) ≡ k)
 
 -- what a search answers: the place of the first item with the key, and none only where no item has it
 abbrev pub Found : {X : Type 0} → (X → ℤ) → List X → ℤ → Option ℕ → Type 0

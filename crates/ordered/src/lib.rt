@@ -1,11 +1,11 @@
 // The ordered row: items of any kind kept from first to last under a standing order, written once.
 ghost use Prim.Native.Nat.{_-_, _<_, _≤_};
 ghost use Rattle.ordered.specs.Key.{eqZ};
-ghost use Rattle.ordered.specs.Row.{Found, Lacks, in-order, place, to-end};
+ghost use Rattle.ordered.specs.Row.{Found, Lacks, Scanned, in-order, place, to-end};
 ghost use Rattle.std.specs.shelf.Lists.{inserted};
 ghost use lib.Dec.{ltb};
 ghost use lib.IntN.{ℤ};
-ghost use lib.ListN.{getD, length, take};
+ghost use lib.ListN.{length, take};
 ghost use mathlib.Core.Bool.{Bool, false, not, true};
 ghost use mathlib.Core.List.{List, [], _++_, _∷_};
 ghost use mathlib.Core.Path.{_≡_};
@@ -45,7 +45,7 @@ pub fn same(a: i64, b: i64) -> bool
 }
 
 // The place where an item goes: behind the leading items of the row that stand before it.
-pub fn position<T, S: Standing<T>>(by: &S, row: &[T], item: &T) -> usize
+fn position<T, S: Standing<T>>(by: &S, row: &[T], item: &T) -> usize
     ensures place { λ r. ⌜ r ≡ place (S·Standing .stands (now (by .entry))) (now (row .entry)) (now (item .entry)) ⌝ }
     ensures within { λ r. ⌜ r ≤ length (now (row .entry)) ⌝ }
 {
@@ -57,52 +57,82 @@ pub fn position<T, S: Standing<T>>(by: &S, row: &[T], item: &T) -> usize
     row.len()
 }
 
+// The place of the first item with a key, or the end of the row.
+fn scan<T, S: Standing<T>>(by: &S, row: &[T], wanted: i64) -> usize
+    ensures { λ r. ⌜ Scanned (S·Standing .key) (now (row .entry)) wanted r ⌝ }
+{
+    for (i, item) in row.iter().enumerate() {
+        if same(by.key_of(item), wanted) {
+            return i;
+        }
+    }
+    row.len()
+}
+
 // The place of the first item with a key, or none.
 pub fn find<T, S: Standing<T>>(by: &S, row: &[T], wanted: i64) -> Option<usize>
     ensures { λ r. ⌜ Found (S·Standing .key) (now (row .entry)) wanted r ⌝ }
 {
-    for (i, item) in row.iter().enumerate() {
-        if same(by.key_of(item), wanted) {
-            return Some(i);
-        }
-    }
-    None
+    let at = scan(by, row, wanted);
+    if at < row.len() { Some(at) } else { None }
 }
 
-// The place where the item at `last` goes among those before it.
-fn place_of_last<T, S: Standing<T>>(by: &S, row: &[T], last: usize) -> usize
-    requires { ⌜ last < length (now row) ⌝ }
-    ensures place { λ r. ⌜ ((d : T) → r ≡ place (S·Standing .stands (now (by .entry))) (take last (now (row .entry))) (getD (now (row .entry)) last d)) ⌝ }
-    ensures within { λ r. ⌜ r ≤ last ⌝ }
+// The place where the last item goes among the others.
+fn place_of_last<T, S: Standing<T>>(by: &S, row: &[T]) -> usize
+    ensures place { λ r. ⌜ ((xs : List T) (x : T) → now (row .entry) ≡ xs ++ x ∷ [] → r ≡ place (S·Standing .stands (now (by .entry))) xs x) ⌝ }
+    ensures within { λ r. ⌜ r ≤ length (now (row .entry)) - 1 ⌝ }
+    ensures ordered { λ r. ⌜ ((xs : List T) (x : T) → now (row .entry) ≡ xs ++ x ∷ [] → in-order (S·Standing .stands (now (by .entry))) xs ≡ true → Lacks (S·Standing .key) xs (S·Standing .key x) (length xs) → in-order (S·Standing .stands (now (by .entry))) (inserted xs r x) ≡ true) ⌝ }
 {
+    if row.is_empty() {
+        return 0;
+    }
+    let last = row.len() - 1;
     position(by, &row[0..last], &row[last])
+}
+
+// Moves the last item up to a place.
+fn raise_last<T>(row: &mut [T], at: usize)
+    requires { ⌜ at ≤ length (now row) - 1 ⌝ }
+    ensures after { λ _. ⌜ ((xs : List T) (x : T) → now (row .entry) ≡ xs ++ x ∷ [] → now (row .exit) ≡ inserted xs at x) ⌝ }
+    ensures none { λ _. ⌜ (now (row .entry) ≡ [] → now (row .exit) ≡ []) ⌝ }
+{
+    if !row.is_empty() {
+        row[at..].rotate_right(1);
+    }
 }
 
 // Moves the last item of the row to its place among the others, and answers the place.
 pub fn insert<T, S: Standing<T>>(by: &S, row: &mut [T]) -> usize
-    ensures after { λ r. ⌜ ((xs : List T) (x : T) → now (row .entry) ≡ xs ++ x ∷ [] → (r ≡ place (S·Standing .stands (now (by .entry))) xs x) × (now (row .exit) ≡ inserted xs r x)) ⌝ }
+    ensures place { λ r. ⌜ ((xs : List T) (x : T) → now (row .entry) ≡ xs ++ x ∷ [] → r ≡ place (S·Standing .stands (now (by .entry))) xs x) ⌝ }
+    ensures after { λ r. ⌜ ((xs : List T) (x : T) → now (row .entry) ≡ xs ++ x ∷ [] → now (row .exit) ≡ inserted xs r x) ⌝ }
     ensures none { λ r. ⌜ (now (row .entry) ≡ [] → (r ≡ 0) × (now (row .exit) ≡ [])) ⌝ }
     ensures ordered { λ _. ⌜ ((xs : List T) (x : T) → now (row .entry) ≡ xs ++ x ∷ [] → in-order (S·Standing .stands (now (by .entry))) xs ≡ true → Lacks (S·Standing .key) xs (S·Standing .key x) (length xs) → in-order (S·Standing .stands (now (by .entry))) (now (row .exit)) ≡ true) ⌝ }
 {
-    let n = row.len();
-    if n == 0 {
-        return 0;
-    }
-    let at = place_of_last(by, row, n - 1);
-    row[at..].rotate_right(1);
+    let at = place_of_last(by, row);
+    raise_last(row, at);
     at
 }
 
-// Moves the item at a place behind all others, which keep their places among themselves; false where there is none.
-pub fn remove<T>(row: &mut [T], at: usize) -> bool
-    ensures test { λ r. ⌜ r ≡ ltb at (length (now (row .entry))) ⌝ }
+// Moves the item at a place behind all others, which keep their places among themselves.
+fn sink<T>(row: &mut [T], at: usize)
+    requires { ⌜ at < length (now row) ⌝ }
     ensures after { λ _. ⌜ now (row .exit) ≡ to-end (now (row .entry)) at ⌝ }
     ensures ordered { λ _. ⌜ ((before : T → T → Bool) → in-order before (now (row .entry)) ≡ true → in-order before (take (length (now (row .entry)) - 1) (now (row .exit))) ≡ true) ⌝ }
+{
+    row[at..].rotate_left(1);
+}
+
+// Moves the item at a place behind all others, which stay in order; false where there is none, and nothing moves.
+pub fn remove<T>(row: &mut [T], at: usize) -> bool
+    ensures test { λ r. ⌜ r ≡ ltb at (length (now (row .entry))) ⌝ }
+    ensures after { λ r. ⌜ (r ≡ true → now (row .exit) ≡ to-end (now (row .entry)) at) ⌝ }
+    ensures ordered { λ r. ⌜ (r ≡ true → (before : T → T → Bool) → in-order before (now (row .entry)) ≡ true → in-order before (take (length (now (row .entry)) - 1) (now (row .exit))) ≡ true) ⌝ }
+    ensures same { λ r. ⌜ (r ≡ false → now (row .exit) ≡ now (row .entry)) ⌝ }
 {
     if at >= row.len() {
         return false;
     }
-    row[at..].rotate_left(1);
+    sink(row, at);
     true
 }
 
