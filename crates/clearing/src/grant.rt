@@ -24,19 +24,19 @@ impl Grant {
         }
     }
 
-    pub fn account(&self) -> i64
+    pub(crate) fn account(&self) -> i64
         ensures { λ r. ⌜ r ≡ now (self .entry) .account ⌝ }
     {
         self.account
     }
 
-    pub fn side(&self) -> Side
+    pub(crate) fn side(&self) -> Side
         ensures { λ r. ⌜ r ≡ now (self .entry) .side ⌝ }
     {
         self.side
     }
 
-    pub fn lots(&self) -> u64
+    pub(crate) fn lots(&self) -> u64
         ensures { λ r. ⌜ r ≡ now (self .entry) .lots ⌝ }
     {
         self.lots
