@@ -35,10 +35,21 @@ pub struct Entry {
 
 #[derive(Clone, Copy, PartialEq, Eq, Debug)]
 pub enum Call {
-    Open { low: i64, high: i64, deviation: i64 },
+    Open {
+        low: i64,
+        high: i64,
+        deviation: i64,
+    },
     Enter(Entry),
-    Withdraw { account: i64, number: i64 },
-    Reduce { account: i64, number: i64, lots: i64 },
+    Withdraw {
+        account: i64,
+        number: i64,
+    },
+    Reduce {
+        account: i64,
+        number: i64,
+        lots: i64,
+    },
     Suspend,
     Resume,
 }

@@ -1,0 +1,3 @@
+pub mod OneCall
+pub mod OneLine
+pub mod Reading
