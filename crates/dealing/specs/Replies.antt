@@ -8,6 +8,7 @@ use Rattle.std.specs.declared.option.Option.{Option}
 use Rattle.std.specs.declared.option.Option.the-variants.{Some, None}
 use Rattle.std.specs.declared.result.Result.{Result}
 use Rattle.std.specs.declared.result.Result.the-variants.{Ok, Err}
+use Rattle.clearing.specs.declared.cause.Denial.{Denial}
 use Rattle.dealing.specs.declared.outcome.Figures.{Figures}
 use Rattle.dealing.specs.declared.outcome.Outcome.{Outcome}
 use Rattle.dealing.specs.declared.outcome.Outcome.the-variants.{Filled, Resting, PartResting, TakenOff, PartOffAtLimit, PartOffAtOwn, Withdrawn, Reduced, Suspended, Resumed, Opened}
@@ -39,6 +40,30 @@ refusal-number CommandLength = 18
 refusal-number CommandLetter = 19
 refusal-number CommandNumber = 20
 refusal-number NotPrintable = 21
+
+-- the cause and the depth: they go with the centre's refusal alone
+abbrev pub denial : Refusal → Option Denial
+denial WrongPeriod = None
+denial LotsOutOfRange = None
+denial MarketTerms = None
+denial PriceOutOfBand = None
+denial NumbersUsedUp = None
+denial OwnOrderFirst = None
+denial NotInFull = None
+denial RegisterFull = None
+denial QueueFull = None
+denial NoSuchOrder = None
+denial NotYourOrder = None
+denial ReductionOutOfRange = None
+denial OutOfStep = None
+denial (CentreDenies d) = Some d
+denial UnsoundText = None
+denial SharedPhrase = None
+denial LineTooShort = None
+denial CommandLength = None
+denial CommandLetter = None
+denial CommandNumber = None
+denial NotPrintable = None
 
 abbrev pub outcome-number : Outcome → ℕ
 outcome-number (Filled f) = 50

@@ -1,5 +1,5 @@
 // Why a call is refused, in the sequence in which the conditions are judged.
-ghost use Rattle.dealing.specs.Replies.{refusal-number};
+ghost use Rattle.dealing.specs.Replies.{denial, refusal-number};
 ghost use mathlib.Core.Path.{_≡_};
 use clearing::cause::Denial;
 use clearing::cause::DenialDebug;
@@ -78,6 +78,16 @@ impl Refusal {
             Refusal::CommandLetter => 19,
             Refusal::CommandNumber => 20,
             Refusal::NotPrintable => 21,
+        }
+    }
+
+    // What the centre said, where the refusal is the centre's.
+    pub fn denial(self) -> Option<Denial>
+        ensures { λ r. ⌜ r ≡ denial self ⌝ }
+    {
+        match self {
+            Refusal::CentreDenies(denial) => Some(denial),
+            _ => None,
         }
     }
 }

@@ -11,7 +11,6 @@ use lib.ListN.{getD, length, take, drop}
 use Rattle.std.specs.Options.{okOr}
 use Rattle.std.specs.declared.option.Option.{Option}
 use Rattle.std.specs.declared.option.Option.the-variants.{Some, None}
-use Rattle.std.specs.declared.result.Result.{Result}
 use Rattle.std.specs.declared.result.Result.the-variants.{Ok, Err}
 use Rattle.std.proofs.shelf.Lists.{ext-getD, getD-drop, getD-take, length-drop, length-take}
 use Rattle.std.proofs.shelf.Tests.{and-parts, cases-bool, cases-lt, cond-false, cond-true, eqb-false, eqb-true}
@@ -24,7 +23,6 @@ use Rattle.dealing.specs.declared.call.Kind.{Kind}
 use Rattle.dealing.specs.declared.call.Kind.the-variants.{Limited, Market}
 use Rattle.dealing.specs.declared.call.Rest.{Rest}
 use Rattle.dealing.specs.declared.call.Rest.the-variants.{Queue, TakeOff, InFull}
-use Rattle.dealing.specs.declared.refusal.Refusal.{Refusal}
 use Rattle.page.specs.declared.command.Head.{Head}
 use Rattle.page.specs.declared.command.Head.the-variants as head
 use Rattle.page.specs.Bytes.{blank, number}
@@ -297,7 +295,7 @@ record Read (a : List ℕ) (c : Call) : Type 0 where
   pub letters : head-of a ≡ Some head
   pub fields : call-of head a ≡ Some c
 
-refused : {A E : Type 0} {e : E} {x : A} → Err e ≡ Ok x → ⊥
+pub refused : {A E : Type 0} {e : E} {x : A} → Err e ≡ Ok x → ⊥
 refused e = let z : _≡_ {A = ℕ} 0 1 = cc in omega arith
 
 was-some : {A E : Type 0} (o : Option A) (e : E) (x : A) → okOr o e ≡ Ok x → o ≡ Some x

@@ -1,19 +1,19 @@
 -- Each call has one line: what a field, a letter or a blank is read to tells its bytes. Assumes nothing.
 use mathlib.Core.Path.{_≡_, refl, sym, ap, subst, _∙_}
-use mathlib.Core.Logic.{_⊎_, inl, inr, ⊎-elim}
-use mathlib.Core.Bool.{Bool, true, false, cond, _&&_}
-use mathlib.Core.List.{List, [], _∷_, _++_}
+use mathlib.Core.Logic.{_⊎_, ⊎-elim}
+use mathlib.Core.Bool.{Bool, true, false, cond}
+use mathlib.Core.List.{List, [], _∷_}
 use Prim.Native.Nat.{ℕ, zero, suc, _+_, _-_, _*_, _^_, _<_, _≤_}
 use native.Mathlib.Nat.{pow-succ', pow-le-pow-right, mul-le-mul-right, mul-assoc, mul-left-comm}
 use native.Mathlib.Omega.{arith}
 use lib.Dec.{eqb}
-use lib.IntN.{ℤ, pos, negsuc}
-use lib.ListN.{getD, length, take, drop}
+use lib.IntN.{ℤ, pos}
+use lib.ListN.{length}
 use Rattle.std.specs.Options.{mapped}
 use Rattle.std.specs.Text.{asciiDigit}
 use Rattle.std.specs.declared.option.Option.{Option}
 use Rattle.std.specs.declared.option.Option.the-variants.{Some, None}
-use Rattle.std.proofs.shelf.Tests.{cond-true, cond-false, eqb-true, eqb-false, ne-eqb, eq-eqb, and-parts, cases-bool, cases-order, cond-both, leb-true}
+use Rattle.std.proofs.shelf.Tests.{cond-true, cond-false, eqb-true, eqb-false, and-parts, cases-bool, cases-order, cond-both, leb-true}
 use Rattle.std.proofs.shelf.Signed.{ints}
 use Rattle.page.specs.Bytes.{blank, unblanked, digits, magnitude, minus, written, zero-alone, number}
 
