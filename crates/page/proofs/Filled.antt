@@ -7,14 +7,14 @@ use Prim.Native.Nat.{ℕ, zero, suc, _+_, _-_, _<_, _≤_}
 use native.Mathlib.Numerals.{add-one}
 use native.Mathlib.Omega.{arith}
 use lib.Dec.{eqb}
-use lib.ListN.{getD, length, drop, replicate}
+use lib.ListN.{getD, length, take, drop, replicate}
 use Rattle.std.specs.Lexical.{Matches}
 use Rattle.std.specs.Orderings.{Decides}
 use Rattle.std.specs.declared.option.Option.the-variants.{Some}
 use Rattle.std.specs.shelf.Text.{sameBytes}
 use Rattle.std.proofs.shelf.Equals.{matches-decides, sameBytes-decides}
-use Rattle.std.proofs.shelf.Lists.{at-drop-more, getD-map, length-append, length-replicate}
-use Rattle.std.proofs.shelf.Tests.{cases-bool, cond-false, cond-true, eqb-true}
+use Rattle.std.proofs.shelf.Lists.{at-drop-more, getD-map, length-append, length-replicate, take-more}
+use Rattle.std.proofs.shelf.Tests.{cases-bool, cond-false, cond-true, eqb-true, ne-eqb}
 use Rattle.std.proofs.shelf.Ways.{same-from-decides}
 use Rattle.page.specs.Phrases.{ends-blank, filled, found-from, kept-before, phrases, trimmed}
 
@@ -79,3 +79,24 @@ module _ (rows : List (List ℕ)) (i : ℕ) (within : i < length rows) (wide : l
 -- `==` on bytes gives the test of the definitions
 pub same-test : (xs ys : List ℕ) (r : Bool) → Matches (λ (a b : ℕ) (t : Bool). Decides t (a ≡ b)) xs ys r → sameBytes xs ys ≡ r
 same-test xs ys r m = same-from-decides _ _ (sameBytes-decides xs ys) (matches-decides xs ys r m)
+
+trimmed-blank : (xs : List ℕ) → trimmed (xs ++ 32 ∷ []) ≡ trimmed xs
+trimmed-blank [] = refl
+trimmed-blank (x ∷ xs) = ap (kept-before x) (trimmed-blank xs)
+
+trimmed-other : (xs : List ℕ) (b : ℕ) → (b ≡ 32 → ⊥) → trimmed (xs ++ b ∷ []) ≡ xs ++ b ∷ []
+trimmed-other [] b n = cond-false _ _ _ (ne-eqb b 32 n)
+trimmed-other (x ∷ []) b n = ap (kept-before x) (trimmed-other [] b n)
+trimmed-other (x ∷ y ∷ ys) b n = ap (kept-before x) (trimmed-other (y ∷ ys) b n)
+
+module _ (row : List ℕ) (end : ℕ) (some : 0 < end) (within : end ≤ length row) where
+  last-taken : take end row ≡ take (end - 1) row ++ getD row (end - 1) 0 ∷ []
+  last-taken = let back : end ≡ end - 1 + 1 = omega arith in ap (λ n. take n row) back ∙ take-more row (end - 1) 0 (omega arith)
+
+  -- a blank at the end is no part of the phrase
+  pub trim-step : getD row (end - 1) 0 ≡ 32 → trimmed (take (end - 1) row) ≡ trimmed (take end row)
+  trim-step e = sym (ap trimmed (last-taken ∙ ap (λ b. take (end - 1) row ++ b ∷ []) e) ∙ trimmed-blank (take (end - 1) row))
+
+  -- another byte is its last
+  pub trim-stop : (getD row (end - 1) 0 ≡ 32 → ⊥) → trimmed (take end row) ≡ take end row
+  trim-stop n = ap trimmed last-taken ∙ trimmed-other (take (end - 1) row) _ n ∙ sym last-taken

@@ -193,7 +193,7 @@ phrase-tells ps t l m a b p q e =
     let same = one-place ps t (u .at) (v .at) (omega (arith, u .within)) (omega (arith, v .within)) (sym field-a ∙ e ∙ field-b) in
     sym (found-owner 0 (reply-number (l .reply)) (u .at) owners (u .owns) .2) ∙ ap (λ i. getD owners (i - 0) 0) same ∙ found-owner 0 (reply-number (m .reply)) (v .at) owners (v .owns) .2
 
-ok-same : {A E : Type 0} (x y : A) → _≡_ {A = Result A E} (Ok x) (Ok y) → x ≡ y
+pub ok-same : {A E : Type 0} (x y : A) → _≡_ {A = Result A E} (Ok x) (Ok y) → x ≡ y
 ok-same x y e = cc
 
 same-told : (o : Option (List ℕ)) (bs : List ℕ) → same-line o bs ≡ true → o ≡ Some (take 86 bs)

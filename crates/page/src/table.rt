@@ -1,5 +1,5 @@
 // A house's phrases, one for each reply that owns one. Two equal phrases cannot be in a table.
-ghost use Prim.Native.Nat.{_<_};
+ghost use Prim.Native.Nat.{_<_, _≤_};
 ghost use Rattle.page.specs.Phrases.{
   filled,
   found-from,
@@ -11,11 +11,14 @@ ghost use Rattle.page.specs.Phrases.{
   None-ends-blank,
   None-long,
 };
+ghost use Rattle.std.specs.Options.{Cases as BySome};
 ghost use Rattle.std.specs.Slices.{found};
 ghost use lib.ListN.{getD, length};
 ghost use mathlib.Core.List.{[]};
 ghost use mathlib.Core.Path.{_≡_};
 use dealing::reply::OWNERS;
+
+pub mod text;
 
 // The columns of a phrase.
 pub const WIDTH: usize = 40;
@@ -53,5 +56,20 @@ impl PhraseTable {
             }
         }
         None
+    }
+
+    // The phrase of the reply at a place, without the blanks after it.
+    pub fn phrase(&self, place: usize) -> Option<&[u8]>
+        ensures { λ r. ⌜ BySome r (28 ≤ place) (λ x. (place < 28) × (now x ≡ getD (phrases (now (self .entry) .rows)) place [])) ⌝ }
+    {
+        if place >= OWNERS {
+            return None;
+        }
+        let row = self.row(place);
+        let mut end = WIDTH;
+        while end > 0 && row[end - 1] == b' ' {
+            end -= 1;
+        }
+        Some(&row[0..end])
     }
 }
