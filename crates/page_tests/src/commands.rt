@@ -10,10 +10,15 @@ use page::command::read;
 use std::test::*;
 
 const OPEN: &[u8; 37] = b"O             1     100000         50";
+
 const ENTER: &[u8; 37] = b"EBLQ        102       7005         15";
+
 const WITHDRAW: &[u8; 37] = b"W           101          1           ";
+
 const REDUCE: &[u8; 37] = b"R           101          1          4";
+
 const SUSPEND: &[u8; 37] = b"H                                    ";
+
 const RESUME: &[u8; 37] = b"G                                    ";
 
 fn reads(line: &[u8], call: Call) -> bool {
@@ -32,7 +37,14 @@ fn refused(line: &[u8], refusal: Refusal) -> bool {
 
 #[test]
 fn six_calls() -> Result<(), Fail> {
-    check(reads(OPEN, Call::Open { low: 1, high: 100_000, deviation: 50 }))?;
+    check(reads(
+        OPEN,
+        Call::Open {
+            low: 1,
+            high: 100_000,
+            deviation: 50,
+        },
+    ))?;
     let entry = Entry {
         account: 102,
         side: Side::Buy,
@@ -42,8 +54,21 @@ fn six_calls() -> Result<(), Fail> {
         lots: 15,
     };
     check(reads(ENTER, Call::Enter(entry)))?;
-    check(reads(WITHDRAW, Call::Withdraw { account: 101, number: 1 }))?;
-    check(reads(REDUCE, Call::Reduce { account: 101, number: 1, lots: 4 }))?;
+    check(reads(
+        WITHDRAW,
+        Call::Withdraw {
+            account: 101,
+            number: 1,
+        },
+    ))?;
+    check(reads(
+        REDUCE,
+        Call::Reduce {
+            account: 101,
+            number: 1,
+            lots: 4,
+        },
+    ))?;
     check(reads(SUSPEND, Call::Suspend))?;
     check(reads(RESUME, Call::Resume))
 }
@@ -53,7 +78,14 @@ fn lengths() -> Result<(), Fail> {
     let long = b"O             1     100000         50 ";
     check(refused(&long[0..0], Refusal::CommandLength))?;
     check(refused(&long[0..36], Refusal::CommandLength))?;
-    check(reads(&long[0..37], Call::Open { low: 1, high: 100_000, deviation: 50 }))?;
+    check(reads(
+        &long[0..37],
+        Call::Open {
+            low: 1,
+            high: 100_000,
+            deviation: 50,
+        },
+    ))?;
     check(refused(&long[0..38], Refusal::CommandLength))
 }
 
@@ -125,7 +157,14 @@ fn numbers() -> Result<(), Fail> {
         (b"        100", 100),
     ];
     for (field, number) in right {
-        check(reads(&reduction(field), Call::Reduce { account: 101, number, lots: 4 }))?;
+        check(reads(
+            &reduction(field),
+            Call::Reduce {
+                account: 101,
+                number,
+                lots: 4,
+            },
+        ))?;
     }
     let wrong: [&[u8; 11]; 16] = [
         b"           ",

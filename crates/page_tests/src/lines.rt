@@ -83,11 +83,26 @@ const LARGEST: Figures = Figures {
 
 #[test]
 fn every_reply_goes_round() -> Result<(), Fail> {
-    let low = Denial { cause: Cause::NoLine, depth: 0 };
-    let high = Denial { cause: Cause::BadSetting, depth: 99 };
+    let low = Denial {
+        cause: Cause::NoLine,
+        depth: 0,
+    };
+    let high = Denial {
+        cause: Cause::BadSetting,
+        depth: 99,
+    };
     check(all_go_round(0, Figures::NONE, low))?;
     check(all_go_round(9_999_999, LARGEST, high))?;
-    check(all_go_round(1_000_000, Figures { number: 1, traded: 10, resting: 200, taken_off: 3_000 }, low))
+    check(all_go_round(
+        1_000_000,
+        Figures {
+            number: 1,
+            traded: 10,
+            resting: 200,
+            taken_off: 3_000,
+        },
+        low,
+    ))
 }
 
 // Nothing is printed, and the caller's bytes are as they were.
@@ -114,29 +129,84 @@ fn is_refused(line: PageLine, len: usize, refusal: Refusal) -> bool
 #[test]
 fn one_beyond_each_column() -> Result<(), Fail> {
     let beyond = [
-        Figures { number: 10_000_000, ..Figures::NONE },
-        Figures { traded: 100_000_000, ..Figures::NONE },
-        Figures { resting: 100_000_000, ..Figures::NONE },
-        Figures { taken_off: u64::MAX, ..Figures::NONE },
+        Figures {
+            number: 10_000_000,
+            ..Figures::NONE
+        },
+        Figures {
+            traded: 100_000_000,
+            ..Figures::NONE
+        },
+        Figures {
+            resting: 100_000_000,
+            ..Figures::NONE
+        },
+        Figures {
+            taken_off: u64::MAX,
+            ..Figures::NONE
+        },
     ];
     for figures in beyond {
         let reply = Ok(Outcome::Filled(figures));
         check(is_refused(PageLine { number: 1, reply }, 86, Refusal::NotPrintable))?;
     }
-    let deep = Err(Refusal::CentreDenies(Denial { cause: Cause::OverFirmCap, depth: 100 }));
-    check(is_refused(PageLine { number: 1, reply: deep }, 86, Refusal::NotPrintable))?;
+    let deep = Err(Refusal::CentreDenies(Denial {
+        cause: Cause::OverFirmCap,
+        depth: 100,
+    }));
+    check(is_refused(
+        PageLine {
+            number: 1,
+            reply: deep,
+        },
+        86,
+        Refusal::NotPrintable,
+    ))?;
     let opened = Ok(Outcome::Opened);
-    check(is_refused(PageLine { number: 10_000_000, reply: opened }, 200, Refusal::NotPrintable))
+    check(is_refused(
+        PageLine {
+            number: 10_000_000,
+            reply: opened,
+        },
+        200,
+        Refusal::NotPrintable,
+    ))
 }
 
 #[test]
 fn no_phrase_no_line() -> Result<(), Fail> {
-    let unowned = [Refusal::UnsoundText, Refusal::SharedPhrase, Refusal::LineTooShort, Refusal::NotPrintable];
+    let unowned = [
+        Refusal::UnsoundText,
+        Refusal::SharedPhrase,
+        Refusal::LineTooShort,
+        Refusal::NotPrintable,
+    ];
     for refusal in unowned {
-        check(is_refused(PageLine { number: 1, reply: Err(refusal) }, 86, Refusal::NotPrintable))?;
-        check(is_refused(PageLine { number: 1, reply: Err(refusal) }, 85, Refusal::LineTooShort))?;
+        check(is_refused(
+            PageLine {
+                number: 1,
+                reply: Err(refusal),
+            },
+            86,
+            Refusal::NotPrintable,
+        ))?;
+        check(is_refused(
+            PageLine {
+                number: 1,
+                reply: Err(refusal),
+            },
+            85,
+            Refusal::LineTooShort,
+        ))?;
     }
-    check(is_refused(PageLine { number: 1, reply: Ok(Outcome::Opened) }, 0, Refusal::LineTooShort))?;
+    check(is_refused(
+        PageLine {
+            number: 1,
+            reply: Ok(Outcome::Opened),
+        },
+        0,
+        Refusal::LineTooShort,
+    ))?;
     check(english().read_back(b"").is_err())
 }
 
@@ -144,11 +214,22 @@ fn no_phrase_no_line() -> Result<(), Fail> {
 #[test]
 fn changed_bytes() -> Result<(), Fail> {
     let table = english();
-    let figures = Figures { number: 3, traded: 10, resting: 0, taken_off: 5 };
-    let line = PageLine { number: 4, reply: Ok(Outcome::PartOffAtOwn(figures)) };
+    let figures = Figures {
+        number: 3,
+        traded: 10,
+        resting: 0,
+        taken_off: 5,
+    };
+    let line = PageLine {
+        number: 4,
+        reply: Ok(Outcome::PartOffAtOwn(figures)),
+    };
     let mut out = [0; 86];
     check(table.print(&line, &mut out).is_ok())?;
-    check(&out[0..80] == b"      4 55 0 0      3      10       0       5 Part traded, rest off at own order")?;
+    check(
+        &out[0..80]
+            == b"      4 55 0 0      3      10       0       5 Part traded, rest off at own order",
+    )?;
     for i in 0..86usize {
         let mut other = out;
         other[i] ^= 1;

@@ -59,7 +59,11 @@ fn phrases_of_a_text(rt: LibcRuntime) -> Result<(), Fail> {
     let wide = b"12345678901234567890123456789012345678901";
     check(flawed(text(heap, 28, 9, wide)?.as_slice(), 10, Flaw::TooLong))?;
     check(flawed(text(heap, 28, 0, b"")?.as_slice(), 1, Flaw::Empty))?;
-    check(flawed(text(heap, 28, 27, b"Z\r")?.as_slice(), 28, Flaw::ByteBelow32))?;
+    check(flawed(
+        text(heap, 28, 27, b"Z\r")?.as_slice(),
+        28,
+        Flaw::ByteBelow32,
+    ))?;
     check(flawed(text(heap, 28, 3, b" x")?.as_slice(), 4, Flaw::EdgedBySpace))?;
     check(flawed(text(heap, 28, 3, b"x ")?.as_slice(), 4, Flaw::EdgedBySpace))
 }
@@ -69,8 +73,16 @@ fn equal_pairs(rt: LibcRuntime) -> Result<(), Fail> {
     let heap = rt.alloc();
     check(shares(text(heap, 28, 27, b"A")?.as_slice(), 0, 27))?;
     check(shares(text(heap, 28, 5, b"W")?.as_slice(), 5, 22))?;
-    check(shares(b"a\nb\nc\nd\ne\nf\nc\nh\nc\nj\nk\nl\nm\nn\no\np\nq\nr\ns\nt\nu\nv\nw\nx\ny\nb\nA\nB\n", 1, 25))?;
-    check(shares(b"a\nb\nc\nd\ne\nf\nc\nh\nc\nj\nk\nl\nm\nn\no\np\nq\nr\ns\nt\nu\nv\nw\nx\ny\nz\nA\nB\n", 2, 6))?;
+    check(shares(
+        b"a\nb\nc\nd\ne\nf\nc\nh\nc\nj\nk\nl\nm\nn\no\np\nq\nr\ns\nt\nu\nv\nw\nx\ny\nb\nA\nB\n",
+        1,
+        25,
+    ))?;
+    check(shares(
+        b"a\nb\nc\nd\ne\nf\nc\nh\nc\nj\nk\nl\nm\nn\no\np\nq\nr\ns\nt\nu\nv\nw\nx\ny\nz\nA\nB\n",
+        2,
+        6,
+    ))?;
     check(flawed(b"a\na\n", 3, Flaw::Missing)).note("flaws go before equal pairs")
 }
 

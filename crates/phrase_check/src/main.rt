@@ -1,14 +1,13 @@
 // Checks a house's phrase text before it goes to the floor.
 mod report;
 
+use crate::report::HELP;
+use crate::report::show;
 use std::env;
 use std::error::AnyError;
 use std::io;
 use std::io::Read;
 use std::io::Write;
-
-use crate::report::HELP;
-use crate::report::show;
 
 fn wants_help(rt: &LibcRuntime) -> io::Result<bool> {
     for (i, arg) in env::args(rt)?.enumerate() {

@@ -122,7 +122,8 @@ mod tests {
         let heap = rt.alloc();
         let text = changed(heap, 22, b"F")?;
         let said = shown(heap, text.as_slice())?;
-        let told = b"two outcomes share one phrase\n   6  Refused: own order stands first\n  55  Part traded, rest off at own order\n";
+        let told =
+            b"two outcomes share one phrase\n   6  Refused: own order stands first\n  55  Part traded, rest off at own order\n";
         check(said.as_slice() == told)
     }
 
