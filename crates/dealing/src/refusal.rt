@@ -52,7 +52,7 @@ pub enum Refusal {
 }
 
 impl Refusal {
-    // The number that the page and the house's papers show.
+    // The number that the page shows.
     pub fn number(self) -> u8
         ensures { λ r. ⌜ r ≡ refusal-number self ⌝ }
     {
