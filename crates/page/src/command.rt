@@ -6,14 +6,15 @@ ghost use Rattle.page.specs.Command.{
   call-of,
   head-of,
   kind-of,
-  plain-letter,
   read-command,
   rest-of,
   side-of,
+  where-holds,
   One-line-each,
 };
 ghost use Rattle.std.specs.Slices.{found};
-ghost use lib.ListN.{length};
+ghost use Rattle.std.specs.declared.option.Option.the-variants.{Some};
+ghost use lib.ListN.{drop, length, take};
 ghost use mathlib.Core.Path.{_≡_};
 use clearing::side::Side;
 use dealing::call::Call;
@@ -67,31 +68,31 @@ fn rest(b: u8) -> Option<Rest>
     }
 }
 
-// Which of the calls that have no letters but their own.
-fn plain(letter: u8) -> Option<Head>
-    ensures { λ r. ⌜ r ≡ plain-letter letter ⌝ }
+// A call that has no letter but its own, where columns 2 to 4 are blank.
+fn alone(head: Head, line: &[u8]) -> Option<Head>
+    requires { ⌜ length (now line) ≡ 37 ⌝ }
+    ensures { λ r. ⌜ r ≡ where-holds (blank (take 3 (drop 1 (now (line .entry))))) (Some head) ⌝ }
 {
-    match letter as char {
-        'O' => Some(Head::Open),
-        'W' => Some(Head::Withdraw),
-        'R' => Some(Head::Reduce),
-        'H' => Some(Head::Suspend),
-        'G' => Some(Head::Resume),
-        _ => None,
+    if is_blank(&line[1..4]) {
+        Some(head)
+    } else {
+        None
     }
 }
 
+// The letter in column 1 names the call.
 fn letters(line: &[u8]) -> Option<Head>
     requires { ⌜ length (now line) ≡ 37 ⌝ }
     ensures { λ r. ⌜ r ≡ head-of (now (line .entry)) ⌝ }
 {
-    if line[0] as char == 'E' {
-        return Some(Head::Enter(side(line[1])?, kind(line[2])?, rest(line[3])?));
-    }
-    if is_blank(&line[1..4]) {
-        plain(line[0])
-    } else {
-        None
+    match line[0] as char {
+        'O' => alone(Head::Open, line),
+        'E' => Some(Head::Enter(side(line[1])?, kind(line[2])?, rest(line[3])?)),
+        'W' => alone(Head::Withdraw, line),
+        'R' => alone(Head::Reduce, line),
+        'H' => alone(Head::Suspend, line),
+        'G' => alone(Head::Resume, line),
+        _ => None,
     }
 }
 
