@@ -38,13 +38,6 @@ impl<C: Centre + Drop> FirmCap<C> {
         (below, firms)
     }
 
-    // The firms, for reading.
-    pub fn firms(&self) -> &FirmTable
-        ensures { λ r. ⌜ now r ≡ now (self .entry) .firms ⌝ }
-    {
-        &self.firms
-    }
-
     // The depth of this layer.
     fn layer(&self) -> u8
         ensures { λ r. ⌜ r ≡ min (C·Centre .depth (now (self .entry) .below) + 1) 99 ⌝ }
