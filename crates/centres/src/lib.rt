@@ -1,4 +1,6 @@
 // The centres that come with the engine: prepaid and by position, and the firm cap over any centre.
+#![tactic(auto)]
+
 pub mod firm_cap;
 pub mod firm_table;
 pub mod position;

@@ -1,5 +1,7 @@
 // The clearing side of the engine: what a centre keeps for each account, what it allows, and what becomes of lots that
 // were reserved.
+#![tactic(auto)]
+
 pub mod account;
 pub mod account_centre;
 pub mod account_rule;

@@ -1,5 +1,7 @@
 // One day of clearing, printed step by step: accounts are added, lots are reserved, settled and given back, and the
 // lines are shown after each step. It runs twice, over a position centre and over a prepaid one, each under two firm caps.
+#![tactic(auto)]
+
 mod day;
 mod order;
 

@@ -1,4 +1,6 @@
 // The clearing centres on examples, worked out by hand from their rules.
+#![tactic(auto)]
+
 #[cfg(test)]
 mod caps;
 #[cfg(test)]

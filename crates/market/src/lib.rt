@@ -1,4 +1,6 @@
 // The market: queue rules, orders, trades and periods, and the law that every run of calls keeps.
+#![tactic(auto)]
+
 pub mod book;
 mod by_price;
 mod carrying;

@@ -1,4 +1,6 @@
 // The market on examples, worked out by hand from the floor's rules.
+#![tactic(auto)]
+
 #[cfg(test)]
 mod centre_changed;
 #[cfg(test)]

@@ -1,4 +1,6 @@
 // The ordered row: items of any kind kept from first to last under a standing order, written once.
+#![tactic(auto)]
+
 ghost use Rattle.std.specs.Prelude.{◌≡◌, ◌-◌, ◌<◌, ◌≤◌, Bool, true, false, not, List, [], ◌∷◌, ◌++◌, length, take, ℤ, ◌≢◌, nat_lt};
 ghost use Rattle.ordered.specs.Key.{eq_z};
 ghost use Rattle.ordered.specs.Row.{Found, Lacks, Scanned, in_order, place, to_end};

@@ -1,4 +1,6 @@
 // Checks a house's phrase text before it goes to the floor.
+#![tactic(auto)]
+
 mod report;
 
 use crate::report::{HELP, show};

@@ -1,4 +1,6 @@
 // Runs one market: by rate, over a position centre. Command lines come in, and each is answered by a printed line.
+#![tactic(auto)]
+
 mod options;
 mod phrases;
 mod trading;

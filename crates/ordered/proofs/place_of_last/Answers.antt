@@ -9,9 +9,9 @@ use Rattle.ordered.proofs.Moves.{last_of, others_of}
 use Rattle.ordered.proofs.Orders.{in_order_inserted}
 use Rattle.ordered.proofs.place_of_last.Goals as goal
 
-pub returns-then-is-empty : goal.returns-then-is-empty
-returns-then-is-empty g c =
-    let none = eqb-true (length c.args.row.now) 0 (sym c.if-is-empty.ensures) in
+pub returns-then-is_empty : goal.returns-then-is_empty
+returns-then-is_empty g c =
+    let none = eqb-true (length c.args.row.now) 0 (sym c.if-is_empty.ensures) in
     record {
       place = λ xs x e. absurd (omega (arith, none, ap length e, length_push xs x));
       within = omega arith;

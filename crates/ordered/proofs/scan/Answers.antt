@@ -6,13 +6,13 @@ use Rattle.ordered.proofs.scan.Goals as goal
 
 pub loop-i-preserved : goal.loop-i-preserved
 loop-i-preserved g c =
-    let f : SFits w64 c.key-of.result = search rules in
-    (omega arith, lacks_past g.S.Standing.key c.args.row.now _ c.loop-i.i _ _ c.loop-i-test.true c.index-row-i.is (to_z-of_z w64 _ f ∙ c.key-of.ensures) (sym c.if-same.ensures) c.loop-i.invariant.1)
+    let f : SFits w64 c.key_of.result = search rules in
+    (omega arith, lacks_past g.S.Standing.key c.args.row.now _ c.loop-i.i _ _ c.loop-i-test.true c.index-row-i.is (to_z-of_z w64 _ f ∙ c.key_of.ensures) (sym c.if-same.ensures) c.loop-i.invariant.1)
 
 pub returns-then-same : goal.returns-then-same
 returns-then-same g c =
-    let f : SFits w64 c.key-of.result = search rules in
-    scanned_here g.S.Standing.key c.args.row.now (to_z w64 (of_z w64 c.args.wanted)) c.loop-i.i _ _ c.loop-i-test.true c.index-row-i.is (to_z-of_z w64 _ f ∙ c.key-of.ensures) (sym c.if-same.ensures) c.loop-i.invariant.1 c.args.wanted (to_z-of_z w64 _ c.ranges.wanted)
+    let f : SFits w64 c.key_of.result = search rules in
+    scanned_here g.S.Standing.key c.args.row.now (to_z w64 (of_z w64 c.args.wanted)) c.loop-i.i _ _ c.loop-i-test.true c.index-row-i.is (to_z-of_z w64 _ f ∙ c.key_of.ensures) (sym c.if-same.ensures) c.loop-i.invariant.1 c.args.wanted (to_z-of_z w64 _ c.ranges.wanted)
 
 pub returns : goal.returns
 returns g c =

@@ -8,5 +8,5 @@ pub returns : goal.returns
 returns g c =
     let row = c.args.row.now in
     let at = c.args.at in
-    let after = place_to_end row _ c.rotate-left.new.self at refl c.rotate-left.ensures.after in
+    let after = place_to_end row _ c.rotate_left.new.self at refl c.rotate_left.ensures.after in
     record { after = after; ordered = λ before o. ap (λ l. in_order before (take (length row - 1) l)) after ∙ in_order_to_end before row at o }

@@ -11,8 +11,8 @@ use Rattle.ordered.proofs.kept.draw.Goals as goal
 pub returns : goal.returns
 returns g c =
     let v = c.args.row.now in
-    let long : length c.sink.new.row ≡ v.len = c.sink.auto.row ∙ c.as-mut-slice.ensures.len in
-    let moved = c.sink.ensures.after ∙ ap (λ xs. to_end xs c.args.at) c.as-mut-slice.ensures.value in
+    let long : length c.sink.new.row ≡ v.len = c.sink.auto.row ∙ c.as_mut_slice.ensures.len in
+    let moved = c.sink.ensures.after ∙ ap (λ xs. to_end xs c.args.at) c.as_mut_slice.ensures.value in
     let kept = with_items_is v c.sink.new.row long in
     let popped = sym (kept ∙ moved) ∙ c.pop.ensures.items in
     let rest : (before : g.row.T.Denot → g.row.T.Denot → Bool) → in_order before v.items ≡ true → in_order before (take (v.len - 1) (to_end v.items c.args.at)) ≡ true =
