@@ -10,10 +10,10 @@ use Rattle.market.specs.Rule.{Rule, rule_of}
 use Rattle.market.specs.Walk.{Walked, walk}
 use Rattle.market.proofs.entering.carry.Goals as goal
 
-pub trade-on-rest-requires : goal.trade-on-rest-requires
-trade-on-rest-requires g c =
+pub trade_on-rest-requires : goal.trade_on-rest-requires
+trade_on-rest-requires g c =
     let e = c.args.entry.now in
-    let n = c.entry-lots-lots.ensures in
+    let n = c.entry_lots-lots.ensures in
     let L = g.C.Centre.lines c.args.centre.now in
     let q = c.args.theirs.now.orders.items in
     let lines = c.reserve-grant.ensures.lines ∙ ap (λ x. adjusted L e.account (hold e.side x)) n in
@@ -29,7 +29,7 @@ pub returns : goal.returns
 returns g c =
     let e = c.args.entry.now in
     let k = c.args.number in
-    let n = c.entry-lots-lots.ensures in
+    let n = c.entry_lots-lots.ensures in
     let L = g.C.Centre.lines c.args.centre.now in
     let b = c.args.rule.now in
     let R : Rule = rule_of (g.R.QueueRule.stands b.rule) (g.R.QueueRule.meets b.rule) in
@@ -38,15 +38,15 @@ returns g c =
     let G = c.args.register.now.trades.items in
     let j = rest_joins e c.args.plan.ending in
     let lines = c.reserve-grant.ensures.lines ∙ ap (λ x. adjusted L e.account (hold e.side x)) n in
-    let left = c.leave-rest.ensures in
-    let made = c.trade-on-rest.ensures in
+    let left = c.leave_rest.ensures in
+    let made = c.trade_on-rest.ensures in
     record {
       entered = λ el count.
           let w = walk el e k (entry_lots e) theirs in
-          let same : walk el e k c.entry-lots-lots.result theirs ≡ w = ap (λ x. walk el e k x theirs) n in
+          let same : walk el e k c.entry_lots-lots.result theirs ≡ w = ap (λ x. walk el e k x theirs) n in
           let all = made.carried el (count ∙ sym (ap (λ (x : Walked). length x.trades) same)) in
-          let lots : c.trade-on-rest.result.lots ≡ w.left = ap (λ (x : Grant). x.lots) all.1 ∙ ap (λ (x : Walked). x.left) same in
-          let settled : g.C.Centre.lines c.trade-on-rest.new.centre ≡ settle_trades (adjusted L e.account (hold e.side (entry_lots e))) w.trades = all.0.lines ∙ ap₂ settle_trades lines (ap (λ (x : Walked). x.trades) same) in
+          let lots : c.trade_on-rest.result.lots ≡ w.left = ap (λ (x : Grant). x.lots) all.1 ∙ ap (λ (x : Walked). x.left) same in
+          let settled : g.C.Centre.lines c.trade_on-rest.new.centre ≡ settle_trades (adjusted L e.account (hold e.side (entry_lots e))) w.trades = all.0.lines ∙ ap₂ settle_trades lines (ap (λ (x : Walked). x.trades) same) in
           record {
             own_queue = left.queue ∙ ap (λ x. cond j (joined R (order_of e.account e.side k e.price x) mine) mine) lots;
             other_queue = all.0.queue ∙ ap (λ (x : Walked). x.queue) same;

@@ -21,27 +21,27 @@ lawful g rule = record {
   meeting = g.met.R.QueueRule.meeting rule;
 }
 
-pub returns-in-err-market : goal.returns-in-err-market
-returns-in-err-market g c =
-    let err = c.from-residual.ensures.0 in
+pub returns-in_err-market : goal.returns-in_err-market
+returns-in_err-market g c =
+    let err = c.from_residual.ensures.0 in
     record {
-      ran = IfOk-from_err c.from-residual.result _ err;
-      settings = IfOk-from_err c.from-residual.result _ err;
+      ran = IfOk-from_err c.from_residual.result _ err;
+      settings = IfOk-from_err c.from_residual.result _ err;
       law = runs_keep_the_law (rule_of (g.R.QueueRule.stands c.args.rule) (g.R.QueueRule.meets c.args.rule)) (lawful g c.args.rule) (g.C.Centre.own c.args.centre) (g.C.Centre.lines c.args.centre) c.args.calls.now;
     }
 
-pub returns-in-err-replies : goal.returns-in-err-replies
-returns-in-err-replies g c =
-    let err = c.from-residual-in-err-replies.ensures.0 in
+pub returns-in_err-replies : goal.returns-in_err-replies
+returns-in_err-replies g c =
+    let err = c.from_residual-in_err-replies.ensures.0 in
     record {
-      ran = IfOk-from_err c.from-residual-in-err-replies.result _ err;
-      settings = IfOk-from_err c.from-residual-in-err-replies.result _ err;
+      ran = IfOk-from_err c.from_residual-in_err-replies.result _ err;
+      settings = IfOk-from_err c.from_residual-in_err-replies.result _ err;
       law = runs_keep_the_law (rule_of (g.R.QueueRule.stands c.args.rule) (g.R.QueueRule.meets c.args.rule)) (lawful g c.args.rule) (g.C.Centre.own c.args.centre) (g.C.Centre.lines c.args.centre) c.args.calls.now;
     }
 
 pub loop-call-preserved : goal.loop-call-preserved
 loop-call-preserved g c =
-    let m = c.in-ok-market.market in
+    let m = c.in_ok-market.market in
     let by : ByRule g.row.R.Denot → Rule = λ x. rule_of (g.R.QueueRule.stands x.rule) (g.R.QueueRule.meets x.rule) in
     let L = g.C.Centre.lines m.centre in
     let C = g.C.Centre.own m.centre in
@@ -53,7 +53,7 @@ loop-call-preserved g c =
     let it = get_or calls i (Open (pos 0) (pos 0) (pos 0)) in
     let answered = ap₂ (λ R D. answer R D (state_of now'.book) (g.C.Centre.lines now'.centre) it) (sym (ap by inv.1)) (sym inv.2) ∙ c.call.ensures.answered in
     let on = run_on (by m.book.rule) C L (take i calls) it (state_of now'.book) (g.C.Centre.lines now'.centre) c.loop-call.replies.items (state_of next.book) (g.C.Centre.lines next.centre) c.call.result inv.0 answered in
-    let pushed = c.push-reserved.ensures in
+    let pushed = c.push_reserved.ensures in
     let more = take_more calls i (Open (pos 0) (pos 0) (pos 0)) c.loop-call-test.true in
     let size = inv.4 in
     let room = inv.5 in
@@ -69,12 +69,12 @@ loop-call-preserved g c =
 
 pub returns : goal.returns
 returns g c =
-    let made = c.in-ok-market.ensures in
+    let made = c.in_ok-market.ensures in
     let inv = c.loop-call.invariant in
     let rule = made.1 in
     let centre = made.2 in
     let end = take_all c.loop-call.call-index c.args.calls.now c.loop-call-test.false in
-    let m = c.in-ok-market.market in
+    let m = c.in_ok-market.market in
     let ran = subst (λ cs. IsRun (rule_of (g.R.QueueRule.stands m.book.rule.rule) (g.R.QueueRule.meets m.book.rule.rule)) (g.C.Centre.own m.centre) (g.C.Centre.lines m.centre) cs (state_of c.loop-call.market.book) (g.C.Centre.lines c.loop-call.market.centre) c.loop-call.replies.items) end inv.0 in
     record {
       ran = subst₂ (λ r z. IsRun (rule_of (g.R.QueueRule.stands r) (g.R.QueueRule.meets r)) (g.C.Centre.own z) (g.C.Centre.lines z) c.args.calls.now (state_of c.loop-call.market.book) (g.C.Centre.lines c.loop-call.market.centre) c.loop-call.replies.items) rule centre ran;

@@ -5,16 +5,16 @@ use Rattle.page.proofs.printed.put_columns.Goals as goal
 pub overflow-add-at : goal.overflow-add-at
 overflow-add-at c = let room = room_step c.args.columns.now c.loop-c.c-index (record { width = 0; value = 0 }) (omega arith) c.loop-c.at c.loop-c.invariant.1 in search rules
 
-pub slice-bounds-put-number-end : goal.slice-bounds-put-number-end
-slice-bounds-put-number-end c = let room = room_step c.args.columns.now c.loop-c.c-index (record { width = 0; value = 0 }) (omega arith) c.loop-c.at c.loop-c.invariant.1 in search rules
+pub slice-bounds-put_number-end : goal.slice-bounds-put_number-end
+slice-bounds-put_number-end c = let room = room_step c.args.columns.now c.loop-c.c-index (record { width = 0; value = 0 }) (omega arith) c.loop-c.at c.loop-c.invariant.1 in search rules
 
 pub overflow-add-at-in-loop-c : goal.overflow-add-at-in-loop-c
 overflow-add-at-in-loop-c c = let room = room_step c.args.columns.now c.loop-c.c-index (record { width = 0; value = 0 }) (omega arith) c.loop-c.at c.loop-c.invariant.1 in search rules
 
 pub loop-c-preserved : goal.loop-c-preserved
 loop-c-preserved c =
-    column_step c.args.columns.now c.loop-c.c-index _ (omega arith) c.loop-c.at _ c.loop-c.out c.args.out.now c.put-number.new.field _ refl
-    c.put-number.ensures c.loop-c.invariant.0 c.loop-c.invariant.1 c.loop-c.invariant.2 (omega arith)
+    column_step c.args.columns.now c.loop-c.c-index _ (omega arith) c.loop-c.at _ c.loop-c.out c.args.out.now c.put_number.new.field _ refl
+    c.put_number.ensures c.loop-c.invariant.0 c.loop-c.invariant.1 c.loop-c.invariant.2 (omega arith)
 
 pub returns : goal.returns
 returns c =

@@ -6,15 +6,15 @@ use Rattle.page.proofs.Printing.{digit_before, digit_last}
 use Rattle.page.proofs.printed.put_number.Goals as goal
 use Rattle.page.proofs.printed.put_number.Goals.{else-left-eq0, then-left-eq0}
 
-pub returns-then-is-empty : goal.returns-then-is-empty
-returns-then-is-empty c =
-    let none = eqb-true _ 0 (sym c.if-is-empty.ensures) in
+pub returns-then-is_empty : goal.returns-then-is_empty
+returns-then-is_empty c =
+    let none = eqb-true _ 0 (sym c.if-is_empty.ensures) in
     nil_from_length _ none ∙ ap (λ w. column w c.args.n) (sym none)
 
 pub loop-at-init : goal.loop-at-init
 loop-at-init c =
     let field = c.args.field.now in
-    let some : 0 < length field = omega (arith, eqb-false _ 0 (sym c.if-is-empty.ensures)) in
+    let some : 0 < length field = omega (arith, eqb-false _ 0 (sym c.if-is_empty.ensures)) in
     let long = length-set field (length field - 1) (48 + c.args.n % 10) in
     (digit_last field c.args.n some ∙ ap (λ w. column w c.args.n) (sym long), omega arith)
 

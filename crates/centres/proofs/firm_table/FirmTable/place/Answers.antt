@@ -7,22 +7,22 @@ use Rattle.centres.proofs.Members.{can_place_parts}
 use Rattle.clearing.proofs.Passed.{passed}
 use Rattle.centres.proofs.firm_table.FirmTable.place.Goals as goal
 
-pub invariant-of-self : goal.invariant-of-self
-invariant-of-self c =
+pub invariant_of-self : goal.invariant_of-self
+invariant_of-self c =
     let t = c.args.self.now in
-    let free = can_place_parts t.members.items _ c.args.firm (sym c.if-not-can-place.ensures) in
+    let free = can_place_parts t.members.items _ c.args.firm (sym c.if-not-can_place.ensures) in
     let j = joins member_before member_account t.members c.add.new.row _ c.add.result free t.room c.add.ensures.added in
     (j.few, (j.room, (c.add.ensures.ordered t.ordered free.1, tt)))
 
 pub returns : goal.returns
 returns c =
     let t = c.args.self.now in
-    let free = can_place_parts t.members.items _ c.args.firm (sym c.if-not-can-place.ensures) in
+    let free = can_place_parts t.members.items _ c.args.firm (sym c.if-not-can_place.ensures) in
     let j = joins member_before member_account t.members c.add.new.row _ c.add.result free t.room c.add.ensures.added in
-    let ok : c.is-ok.result ≡ true = c.is-ok.ensures.value ∙ j.ok in
+    let ok : c.is_ok.result ≡ true = c.is_ok.ensures.value ∙ j.ok in
     record {
-      test = ok ∙ passed (λ a. true ≡ can_place t.members.items a c.args.firm) c.args.account c.ranges.account c.if-not-can-place.ensures;
+      test = ok ∙ passed (λ a. true ≡ can_place t.members.items a c.args.firm) c.args.account c.ranges.account c.if-not-can_place.ensures;
       placed = λ _. passed (λ a. Placed t.members.items a c.args.firm c.add.new.row.items) c.args.account c.ranges.account (j.items, j.shows (λ m. m.firm));
       caps = search;
-      same = λ f. absurd (both_ways c.is-ok.result f ok);
+      same = λ f. absurd (both_ways c.is_ok.result f ok);
     }

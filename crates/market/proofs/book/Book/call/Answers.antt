@@ -37,29 +37,29 @@ pub enter-requires : goal.enter-requires
 enter-requires g c =
     let b = c.args.self.now in
     let R : Rule = rule_of (g.R.QueueRule.stands b.rule.rule) (g.R.QueueRule.meets b.rule.rule) in
-    let t = c.in-default.ensures R (g.C.Centre.own c.args.centre.now) (state_of b) (g.C.Centre.lines c.args.centre.now) in
+    let t = c.in_default.ensures R (g.C.Centre.own c.args.centre.now) (state_of b) (g.C.Centre.lines c.args.centre.now) in
     ap (λ (S : State). is_trading S.period) t.0 ∙ subst (λ x. goes_on b.sitting.period x ≡ true) c.in-Enter.is t.1
 
 pub withdraw-requires : goal.withdraw-requires
 withdraw-requires g c =
     let b = c.args.self.now in
     let R : Rule = rule_of (g.R.QueueRule.stands b.rule.rule) (g.R.QueueRule.meets b.rule.rule) in
-    let t = c.in-default.ensures R (g.C.Centre.own c.args.centre.now) (state_of b) (g.C.Centre.lines c.args.centre.now) in
+    let t = c.in_default.ensures R (g.C.Centre.own c.args.centre.now) (state_of b) (g.C.Centre.lines c.args.centre.now) in
     ap (λ (S : State). is_unopened S.period) t.0 ∙ not-true _ (subst (λ x. goes_on b.sitting.period x ≡ true) c.in-Withdraw.is t.1)
 
 pub reduce-requires : goal.reduce-requires
 reduce-requires g c =
     let b = c.args.self.now in
     let R : Rule = rule_of (g.R.QueueRule.stands b.rule.rule) (g.R.QueueRule.meets b.rule.rule) in
-    let t = c.in-default.ensures R (g.C.Centre.own c.args.centre.now) (state_of b) (g.C.Centre.lines c.args.centre.now) in
+    let t = c.in_default.ensures R (g.C.Centre.own c.args.centre.now) (state_of b) (g.C.Centre.lines c.args.centre.now) in
     ap (λ (S : State). is_unopened S.period) t.0 ∙ not-true _ (subst (λ x. goes_on b.sitting.period x ≡ true) c.in-Reduce.is t.1)
 
 pub unreachable-requires : goal.unreachable-requires
 unreachable-requires g c =
     let b = c.args.self.now in
     let R : Rule = rule_of (g.R.QueueRule.stands b.rule.rule) (g.R.QueueRule.meets b.rule.rule) in
-    let t = c.in-default.ensures R (g.C.Centre.own c.args.centre.now) (state_of b) (g.C.Centre.lines c.args.centre.now) in
-    no_other b.sitting.period c.args.call t.1 c.in-default-call.not-Enter c.in-default-call.not-Withdraw c.in-default-call.not-Reduce
+    let t = c.in_default.ensures R (g.C.Centre.own c.args.centre.now) (state_of b) (g.C.Centre.lines c.args.centre.now) in
+    no_other b.sitting.period c.args.call t.1 c.in_default-call.not-Enter c.in_default-call.not-Withdraw c.in_default-call.not-Reduce
 
 pub returns-in-Enter : goal.returns-in-Enter
 returns-in-Enter g c =
@@ -67,7 +67,7 @@ returns-in-Enter g c =
     let R : Rule = rule_of (g.R.QueueRule.stands b.rule.rule) (g.R.QueueRule.meets b.rule.rule) in
     let C = g.C.Centre.own c.args.centre.now in
     let L = g.C.Centre.lines c.args.centre.now in
-    let t = c.in-default.ensures R C (state_of b) L in
+    let t = c.in_default.ensures R C (state_of b) L in
     let done-so = c.enter.ensures in
     record {
       answered = ap (answer R C (state_of b) L) c.in-Enter.is ∙ ap (λ S. enter R C S L c.in-Enter.entry) (sym t.0) ∙ done-so.answered;
@@ -82,7 +82,7 @@ returns-in-Withdraw g c =
     let R : Rule = rule_of (g.R.QueueRule.stands b.rule.rule) (g.R.QueueRule.meets b.rule.rule) in
     let C = g.C.Centre.own c.args.centre.now in
     let L = g.C.Centre.lines c.args.centre.now in
-    let t = c.in-default.ensures R C (state_of b) L in
+    let t = c.in_default.ensures R C (state_of b) L in
     let same = sym t.0 in
     let fa : SFits w64 c.in-Withdraw.account = search rules in
     let fk : SFits w64 c.in-Withdraw.number = search rules in
@@ -102,7 +102,7 @@ returns-in-Reduce g c =
     let R : Rule = rule_of (g.R.QueueRule.stands b.rule.rule) (g.R.QueueRule.meets b.rule.rule) in
     let C = g.C.Centre.own c.args.centre.now in
     let L = g.C.Centre.lines c.args.centre.now in
-    let t = c.in-default.ensures R C (state_of b) L in
+    let t = c.in_default.ensures R C (state_of b) L in
     let same = sym t.0 in
     let fa : SFits w64 c.in-Reduce.account = search rules in
     let fk : SFits w64 c.in-Reduce.number = search rules in

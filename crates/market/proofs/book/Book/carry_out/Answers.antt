@@ -16,8 +16,8 @@ carry-requires g c =
     let n = carry_needs R (g.C.Centre.own c.args.centre.now) (g.C.Centre.lines c.args.centre.now) b c.args.entry.now c.args.plan c.requires Buy c.in-Buy.is in
     record { asked = n.0; planned = n.1; register = n.2; queue = n.3 }
 
-pub invariant-of-self : goal.invariant-of-self
-invariant-of-self g c =
+pub invariant_of-self : goal.invariant_of-self
+invariant_of-self g c =
     let b = c.args.self.now in
     let R : Rule = rule_of (g.R.QueueRule.stands b.rule.rule) (g.R.QueueRule.meets b.rule.rule) in
     let last = c.carry.new in
@@ -31,8 +31,8 @@ carry-requires-in-Sell g c =
     let n = carry_needs R (g.C.Centre.own c.args.centre.now) (g.C.Centre.lines c.args.centre.now) b c.args.entry.now c.args.plan c.requires Sell c.in-Sell.is in
     record { asked = n.0; planned = n.1; register = n.2; queue = n.3 }
 
-pub invariant-of-self-in-Sell : goal.invariant-of-self-in-Sell
-invariant-of-self-in-Sell g c =
+pub invariant_of-self-in-Sell : goal.invariant_of-self-in-Sell
+invariant_of-self-in-Sell g c =
     let b = c.args.self.now in
     let R : Rule = rule_of (g.R.QueueRule.stands b.rule.rule) (g.R.QueueRule.meets b.rule.rule) in
     let last = c.carry-in-Sell.new in

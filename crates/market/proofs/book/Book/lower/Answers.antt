@@ -5,15 +5,15 @@ use Rattle.market.proofs.Namings.{all_on_lowered_at}
 use Rattle.market.specs.Order.{all_on}
 use Rattle.market.proofs.book.Book.lower.Goals as goal
 
-pub invariant-of-self : goal.invariant-of-self
-invariant-of-self g c =
+pub invariant_of-self : goal.invariant_of-self
+invariant_of-self g c =
     let b = c.args.self.now in (
       subst (λ q. all_on Buy q ≡ true) (sym c.lower.ensures.lowered) (all_on_lowered_at Buy c.args.place.at c.args.lots b.buys.orders.items b.bought),
       (b.sold, tt),
     )
 
-pub invariant-of-self-in-Sell : goal.invariant-of-self-in-Sell
-invariant-of-self-in-Sell g c =
+pub invariant_of-self-in-Sell : goal.invariant_of-self-in-Sell
+invariant_of-self-in-Sell g c =
     let b = c.args.self.now in (
       b.bought,
       (

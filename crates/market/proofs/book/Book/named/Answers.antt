@@ -15,21 +15,21 @@ returns-in-Some g c =
     named_buy (state_of b) c.args.number i b.bought
     (passed (λ z. Found (λ (o : Order). pos o.number) b.buys.orders.items z (Some i)) _ c.ranges.number c.in-Some.ensures)
 
-pub returns-in-err-at : goal.returns-in-err-at
-returns-in-err-at g c =
+pub returns-in_err-at : goal.returns-in_err-at
+returns-in_err-at g c =
     let b = c.args.self.now in
     let S = state_of b in
     let k = c.args.number in
-    subst (Named S k) (sym c.from-residual.ensures) (named_none S k
-    (passed (λ z. Lacks (λ (o : Order). pos o.number) S.buys z (length S.buys)) k c.ranges.number c.in-default.ensures)
-    (passed (λ z. Lacks (λ (o : Order). pos o.number) S.sells z (length S.sells)) k c.ranges.number c.in-err-at.ensures))
+    subst (Named S k) (sym c.from_residual.ensures) (named_none S k
+    (passed (λ z. Lacks (λ (o : Order). pos o.number) S.buys z (length S.buys)) k c.ranges.number c.in_default.ensures)
+    (passed (λ z. Lacks (λ (o : Order). pos o.number) S.sells z (length S.sells)) k c.ranges.number c.in_err-at.ensures))
 
 pub returns : goal.returns
 returns g c =
     let b = c.args.self.now in
     let S = state_of b in
     let k = c.args.number in
-    let i = c.in-ok-at.at in
+    let i = c.in_ok-at.at in
     named_sell S k
-    (passed (λ z. Lacks (λ (o : Order). pos o.number) S.buys z (length S.buys)) k c.ranges.number c.in-default.ensures) i b.sold
-    (passed (λ z. Found (λ (o : Order). pos o.number) S.sells z (Some i)) k c.ranges.number c.in-ok-at.ensures)
+    (passed (λ z. Lacks (λ (o : Order). pos o.number) S.buys z (length S.buys)) k c.ranges.number c.in_default.ensures) i b.sold
+    (passed (λ z. Found (λ (o : Order). pos o.number) S.sells z (Some i)) k c.ranges.number c.in_ok-at.ensures)

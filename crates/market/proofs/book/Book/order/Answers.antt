@@ -6,17 +6,17 @@ use Rattle.market.specs.BookState.{state_of}
 use Rattle.market.specs.State.{queue_of}
 use Rattle.market.proofs.book.Book.order.Goals as goal
 
-pub offset-bounds-as-slice-place : goal.offset-bounds-as-slice-place
-offset-bounds-as-slice-place g c =
+pub offset-bounds-as_slice-place : goal.offset-bounds-as_slice-place
+offset-bounds-as_slice-place g c =
     let few = c.queue.result.now.few in
     let len = c.queue.result.now.orders.ok.0 in
     let long = ap length c.queue.ensures in
     let within = (c.requires.found any_order).0 in
     omega arith
 
-pub bounds-as-slice-place : goal.bounds-as-slice-place
-bounds-as-slice-place g c =
-    let long = ap length (c.as-slice.ensures ∙ c.queue.ensures) in
+pub bounds-as_slice-place : goal.bounds-as_slice-place
+bounds-as_slice-place g c =
+    let long = ap length (c.as_slice.ensures ∙ c.queue.ensures) in
     let within = (c.requires.found any_order).0 in
     omega arith
 
@@ -24,4 +24,4 @@ pub returns : goal.returns
 returns g c d =
     let i = c.args.place.at in
     let q = queue_of c.args.place.side (state_of c.args.self.now) in
-    ap (λ l. get_or l i any_order) (c.as-slice.ensures ∙ c.queue.ensures) ∙ get_or_default q i any_order d (c.requires.found d).0
+    ap (λ l. get_or l i any_order) (c.as_slice.ensures ∙ c.queue.ensures) ∙ get_or_default q i any_order d (c.requires.found d).0

@@ -17,12 +17,12 @@ returns g c =
     let S = state_of b in
     let e = c.args.entry in
     let q = queue_of (other e.side) S in
-    let theirs = c.as-slice.ensures ∙ c.queue-theirs.ensures ∙ ap (λ s. queue_of s S) c.other.ensures in
-    let same : walk_by R c.taker-taker.result c.args.lots c.as-slice.result.now ≡ walk_of R S e =
-    ap (λ t. walk_by R t c.args.lots c.as-slice.result.now) c.taker-taker.ensures
+    let theirs = c.as_slice.ensures ∙ c.queue-theirs.ensures ∙ ap (λ s. queue_of s S) c.other.ensures in
+    let same : walk_by R c.taker-taker.result c.args.lots c.as_slice.result.now ≡ walk_of R S e =
+    ap (λ t. walk_by R t c.args.lots c.as_slice.result.now) c.taker-taker.ensures
     ∙ ap₂ (walk_by R (taker_of S e)) c.requires.lots theirs
     ∙ walk_same R (taker_of S e) q refl (entry_lots e) q in
-    let w = c.plan-walk.ensures in
+    let w = c.plan_walk.ensures in
     record {
       ending = w.ending ∙ ap (λ (x : Walked). x.ending) same;
       left = w.left ∙ ap (λ (x : Walked). x.left) same;

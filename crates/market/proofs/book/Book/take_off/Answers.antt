@@ -20,8 +20,8 @@ overflow-sub-figures g c =
 pub lower-grant-requires : goal.lower-grant-requires
 lower-grant-requires g c = record { within = (c.requires.placed.found any_order).0; enough = c.requires.enough }
 
-pub give-back-requires : goal.give-back-requires
-give-back-requires g c =
+pub give_back-requires : goal.give_back-requires
+give_back-requires g c =
     let L = g.C.Centre.lines c.args.centre.now in
     subst (λ (x : Grant). holds (L x.account) x.side x.lots ≡ true) (sym (c.lower-grant.ensures.grant any_order))
     (held_there (state_of c.args.self.now) L c.args.place c.args.lots c.requires.placed any_order (c.requires.enough any_order) (c.requires.in_step any_order))
@@ -30,12 +30,12 @@ pub returns : goal.returns
 returns g c =
     let L = g.C.Centre.lines c.args.centre.now in
     let n = c.args.lots in
-    let back = c.give-back.ensures in
+    let back = c.give_back.ensures in
     record {
       taken = λ d. (
         ap (λ m. figures_of c.order-order.result.now.number 0 (m - n) n) c.lots.ensures
             ∙ ap (λ (o : Order). figures_of o.number 0 (lots_of o - n) n) (c.order-order.ensures d),
-        taken_there (state_of c.args.self.now) L c.args.place n c.requires.placed d (state_of c.lower-grant.new.self) (g.C.Centre.lines c.give-back.new.centre) c.lower-grant.ensures.state
+        taken_there (state_of c.args.self.now) L c.args.place n c.requires.placed d (state_of c.lower-grant.new.self) (g.C.Centre.lines c.give_back.new.centre) c.lower-grant.ensures.state
             (back.lines ∙ ap (λ (x : Grant). adjusted L x.account (release x.side x.lots)) (c.lower-grant.ensures.grant d)),
       );
       rule = c.lower-grant.ensures.rule;

@@ -13,11 +13,11 @@ pub loop-place-init : goal.loop-place-init
 unfolding all_lines
 loop-place-init c = (refl, λ i h. ap length (get_or-replicate 28 i (replicate 40 32) [] h), refl)
 
-pub returns-in-default : goal.returns-in-default
-returns-in-default c =
+pub returns-in_default : goal.returns-in_default
+returns-in_default c =
     let so_far = phrases (take c.loop-place.place c.loop-place.rows) in
     c.loop-place.invariant.0
-    ∙ ap (prepended so_far) (no_line (28 - c.loop-place.place) (c.loop-place.place + 1) c.loop-place.rest.now (omega arith) c.in-default.ensures.value)
+    ∙ ap (prepended so_far) (no_line (28 - c.loop-place.place) (c.loop-place.place + 1) c.loop-place.rest.now (omega arith) c.in_default.ensures.value)
     ∙ prepended_err so_far _
     ∙ ap (λ f. Err (Unsound (c.loop-place.place + 1) f)) (sym c.unended.ensures)
 
@@ -38,7 +38,7 @@ loop-place-preserved c =
     let place = c.loop-place.place in
     let end = c.in-Some.end in
     let whole : end - 0 ≡ end = omega arith in
-    let sound = ap (λ n. flaw_of (take n rest)) (sym whole) ∙ sym c.in-default-judge.ensures in
+    let sound = ap (λ n. flaw_of (take n rest)) (sym whole) ∙ sym c.in_default-judge.ensures in
     let row : c.field.result ≡ filled (take end rest) = c.field.ensures ∙ ap (λ n. filled (take n rest)) whole in
     let long = c.loop-place.invariant.2 in
     let wide = ap length row ∙ filled-length (take end rest) (sound_phrase (take end rest) sound).1 in (
@@ -48,10 +48,10 @@ loop-place-preserved c =
       length-set rows place c.field.result ∙ long,
     )
 
-pub returns-then-is-empty : goal.returns-then-is-empty
-returns-then-is-empty c =
+pub returns-then-is_empty : goal.returns-then-is_empty
+returns-then-is_empty c =
     let rows = c.loop-place.rows in
-    let empty = nil_from_length _ (eqb-true _ 0 (sym c.if-is-empty.ensures)) in
+    let empty = nil_from_length _ (eqb-true _ 0 (sym c.if-is_empty.ensures)) in
     let so_far = phrases (take c.loop-place.place rows) in (
       c.loop-place.invariant.0
           ∙ ap (prepended so_far) (none_left (28 - c.loop-place.place) _ c.loop-place.rest.now (omega arith) empty)
@@ -60,12 +60,12 @@ returns-then-is-empty c =
       c.loop-place.invariant.1,
     )
 
-pub returns-else-is-empty : goal.returns-else-is-empty
-returns-else-is-empty c =
+pub returns-else-is_empty : goal.returns-else-is_empty
+returns-else-is_empty c =
     let place = c.loop-place.place in
     let full : place ≡ 28 = omega arith in
     let so_far = phrases (take place c.loop-place.rows) in
     c.loop-place.invariant.0
-    ∙ ap (prepended so_far) (some_left (28 - place) (place + 1) c.loop-place.rest.now (omega arith) (omega (arith, eqb-false _ 0 (sym c.if-is-empty.ensures))))
+    ∙ ap (prepended so_far) (some_left (28 - place) (place + 1) c.loop-place.rest.now (omega arith) (omega (arith, eqb-false _ 0 (sym c.if-is_empty.ensures))))
     ∙ prepended_err so_far _
     ∙ ap (λ k. Err (Unsound (k + 1) Surplus)) full

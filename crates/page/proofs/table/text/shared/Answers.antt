@@ -15,7 +15,7 @@ pub loop-place-preserved : goal.loop-place-preserved
 loop-place-preserved c =
     let rows = c.args.rows.now in
     let long = length-map rows trimmed in
-    shared_step (phrases rows) c.loop-place.place (omega (arith, c.told-rows)) (sym c.in-default.ensures) ∙ c.loop-place.invariant
+    shared_step (phrases rows) c.loop-place.place (omega (arith, c.told-rows)) (sym c.in_default.ensures) ∙ c.loop-place.invariant
 
 pub returns : goal.returns
 returns c =
