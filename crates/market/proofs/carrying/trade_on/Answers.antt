@@ -29,8 +29,8 @@ trade_first-rest-requires g c =
       can = subst (λ a. CanTrade (g.C.Centre.lines c.loop-i.centre) c.loop-i.theirs.orders.items c.args.entry.now.side (party c.args.number a) c.first_lots-n.result) same can.0;
     }
 
-pub overflow-sub-left : goal.overflow-sub-left
-overflow-sub-left g c =
+pub overflow_sub-left : goal.overflow_sub-left
+overflow_sub-left g c =
     let way = c.loop-i.invariant.0 in
     let can = (way_can _ _ _ _ _ _ _ _ _ _ _ _ _ way c.loop-i-test.true c.first_lots-n.result c.first_lots-n.ensures).1 in
     let lots = ap (λ (x : Grant). x.lots) way.grant in

@@ -7,8 +7,8 @@ use Rattle.market.proofs.QueueTables.{resting_more, resting_same}
 use Rattle.market.proofs.queue.lots_of.Goals as goal
 use Rattle.market.proofs.queue.lots_of.Goals.{then_same, else_same}
 
-pub overflow-add-lots : goal.overflow-add-lots
-overflow-add-lots c = omega (arith, c.loop-order.invariant.0, c.from-lots.ensures, c.lots.type-inv, c.requires, c.loop-order-test.true)
+pub overflow_add-lots : goal.overflow_add-lots
+overflow_add-lots c = omega (arith, c.loop-order.invariant.0, c.from-lots.ensures, c.lots.type-inv, c.requires, c.loop-order-test.true)
 
 pub loop-order-preserved : goal.loop-order-preserved
 loop-order-preserved c =

@@ -4,8 +4,8 @@ use Rattle.page.specs.Columns.{all_fit}
 use Rattle.page.proofs.Printing.{fit_step, fit_stop, narrow_step, power_narrow}
 use Rattle.page.proofs.printed.all_fit.Goals as goal
 
-pub overflow-cast-c : goal.overflow-cast-c
-overflow-cast-c c =
+pub overflow_cast-c : goal.overflow_cast-c
+overflow_cast-c c =
     let narrow = narrow_step c.args.columns.now c.loop-c.c-index (record { width = 0; value = 0 }) (omega arith) c.loop-c.invariant.1 in
     search rules
 

@@ -12,7 +12,7 @@ invariant_of-self c =
     let t = c.args.self.now in
     let free = can_place_parts t.members.items _ c.args.firm (sym c.if-not-can_place.ensures) in
     let j = joins member_before member_account t.members c.add.new.row _ c.add.result free t.room c.add.ensures.added in
-    (j.few, (j.room, (c.add.ensures.ordered t.ordered free.1, tt)))
+    record { few = j.few; room = j.room; ordered = c.add.ensures.ordered t.ordered free.1 }
 
 pub returns : goal.returns
 returns c =

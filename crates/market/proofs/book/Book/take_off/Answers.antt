@@ -11,8 +11,8 @@ use Rattle.market.specs.Order.{lots_of}
 use Rattle.market.specs.declared.order.Order.{Order}
 use Rattle.market.proofs.book.Book.take_off.Goals as goal
 
-pub overflow-sub-figures : goal.overflow-sub-figures
-overflow-sub-figures g c =
+pub overflow_sub-figures : goal.overflow_sub-figures
+overflow_sub-figures g c =
     let all = c.lots.ensures ∙ ap lots_of (c.order-order.ensures any_order) in
     let enough = c.requires.enough any_order in
     omega arith
