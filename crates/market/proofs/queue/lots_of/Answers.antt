@@ -5,20 +5,20 @@ use Rattle.std.proofs.lemmas.Int.{to_z-of_z}
 use Rattle.market.specs.Order.{lots_resting}
 use Rattle.market.proofs.QueueTables.{resting_more, resting_same}
 use Rattle.market.proofs.queue.lots_of.Goals as goal
-use Rattle.market.proofs.queue.lots_of.Goals.{then_same, else_same}
+use Rattle.market.proofs.queue.lots_of.Goals.{then-same, else-same}
 
 pub overflow_add-lots : goal.overflow_add-lots
-overflow_add-lots c = omega (arith, c.loop-order.invariant.0, c.from-lots.ensures, c.lots.type-inv, c.requires, c.loop-order-test.true)
+overflow_add-lots c = omega (arith, c.loop-order.invariant.0, c.from-lots.ensures, c.lots.type_inv, c.requires, c.loop-order-test.true)
 
 pub loop-order-preserved : goal.loop-order-preserved
 loop-order-preserved c =
     let f : SFits w64 c.account.result = search rules in
     let inv = c.loop-order.invariant in
     elim c.if-same.branch [
-      | then_same w ↦
+      | then-same w ↦
           let e = resting_more c.args.orders.now c.loop-order.order-index (to_z w64 (of_z w64 c.args.account)) _ _ c.loop-order-test.true (to_z-of_z w64 _ f ∙ c.account.ensures) w.lots.result (sym w.if-same.ensures) w.lots.ensures in
-          (omega (arith, inv.0, w.lots-is, w.from-lots.ensures, w.lots.type-inv), omega (arith, inv.1, w.lots-is, w.from-lots.ensures, e))
-      | else_same w ↦
+          (omega (arith, inv.0, w.lots-is, w.from-lots.ensures, w.lots.type_inv), omega (arith, inv.1, w.lots-is, w.from-lots.ensures, e))
+      | else-same w ↦
           let e = resting_same c.args.orders.now c.loop-order.order-index (to_z w64 (of_z w64 c.args.account)) _ _ c.loop-order-test.true (to_z-of_z w64 _ f ∙ c.account.ensures) (sym w.if-same.ensures) in
           (omega (arith, inv.0, w.lots-is), omega (arith, inv.1, w.lots-is, e))
     ]

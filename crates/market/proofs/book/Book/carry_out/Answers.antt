@@ -22,7 +22,7 @@ invariant_of-self g c =
     let R : Rule = rule_of (g.R.QueueRule.stands b.rule.rule) (g.R.QueueRule.meets b.rule.rule) in
     let last = c.carry.new in
     let kept = sides_kept R (g.C.Centre.own c.args.centre.now) (g.C.Centre.lines c.args.centre.now) b c.args.entry.now c.args.plan c.requires Buy c.in-Buy.is (g.C.Centre.lines last.centre) last.mine.orders.items last.theirs.orders.items last.register.trades.items c.carry.ensures.entered in
-    (kept.0, (kept.1, tt))
+    record { bought = kept.0; sold = kept.1 }
 
 pub carry-requires-in-Sell : goal.carry-requires-in-Sell
 carry-requires-in-Sell g c =
@@ -37,7 +37,7 @@ invariant_of-self-in-Sell g c =
     let R : Rule = rule_of (g.R.QueueRule.stands b.rule.rule) (g.R.QueueRule.meets b.rule.rule) in
     let last = c.carry-in-Sell.new in
     let kept = sides_kept R (g.C.Centre.own c.args.centre.now) (g.C.Centre.lines c.args.centre.now) b c.args.entry.now c.args.plan c.requires Sell c.in-Sell.is (g.C.Centre.lines last.centre) last.mine.orders.items last.theirs.orders.items last.register.trades.items c.carry-in-Sell.ensures.entered in
-    (kept.1, (kept.0, tt))
+    record { bought = kept.1; sold = kept.0 }
 
 pub outcome-requires : goal.outcome-requires
 outcome-requires g c =

@@ -6,8 +6,8 @@ use Rattle.market.specs.BookState.{state_of}
 use Rattle.market.specs.State.{queue_of}
 use Rattle.market.proofs.book.Book.order.Goals as goal
 
-pub offset-bounds-as_slice-place : goal.offset-bounds-as_slice-place
-offset-bounds-as_slice-place g c =
+pub offset_bounds-as_slice-place : goal.offset_bounds-as_slice-place
+offset_bounds-as_slice-place g c =
     let few = c.queue.result.now.few in
     let len = c.queue.result.now.orders.ok.0 in
     let long = ap length c.queue.ensures in

@@ -4,4 +4,4 @@ use Rattle.market.proofs.QueueTables.{same_queue}
 use Rattle.market.proofs.queue.Queue.order_mut.Goals as goal
 
 pub returns : goal.returns
-returns c = ((refl, λ w. same_queue _ _ _ _ _), c.index_mut.ensures.value)
+returns c = ((refl, λ w. same_queue _ _ _ _ _), record { follows = tt; value = c.index_mut.ensures.value })
