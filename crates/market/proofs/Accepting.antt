@@ -1,14 +1,12 @@
 -- What is known of an entry that is not refused, and what carrying it out comes to. Assumes nothing.
-use Rattle.std.proofs.Common.{◌≡◌, ℕ, suc, ◌+◌, ◌-◌, ◌<◌, ◌≤◌, Bool, true, false, cond, not, ◌&&◌, ◌||◌, eqb, ltb, leb, ◌⊎◌, List, [], ◌∷◌, ◌++◌, length, ℤ, Some, None, Ok, Err, Option, sym, refl, ap, ◌∙◌, subst, ap₂, inl, inr, arith}
+use Rattle.std.proofs.Common.{◌≡◌, ℕ, suc, ◌+◌, ◌-◌, ◌<◌, ◌≤◌, Bool, true, false, cond, eqb, leb, List, [], ◌∷◌, ◌++◌, length, ℤ, Some, None, Ok, sym, ap, ◌∙◌, subst, ap₂, inl, inr, arith}
 use Rattle.std.specs.Option.{option_map}
-use Rattle.std.specs.List.{AllByRecursion as All}
 use Rattle.std.proofs.lemmas.Bool.{and_from, both_ways, cases_Bool, cond_both, cond-false, cond-true, leb-false, ltb-false, not-false, or_parts}
 use Rattle.ordered.specs.Key.{eq_z}
 use Rattle.ordered.proofs.Keys.{eq_z_refl}
 use Rattle.clearing.specs.Centre.{Lines, Own, adjusted, holds, verdict}
 use Rattle.clearing.specs.Line.{hold, release}
 use Rattle.clearing.specs.Side.{other}
-use Rattle.clearing.specs.declared.line.Line.{Line}
 use Rattle.clearing.specs.declared.side.Side.{Side}
 use Rattle.clearing.specs.declared.side.Side.TheVariants.{Buy, Sell}
 use Rattle.dealing.specs.declared.call.Entry.{Entry}
@@ -17,8 +15,8 @@ use Rattle.market.proofs.InStep.{reserved_holds, reserved_still_holds}
 use Rattle.market.proofs.Runs.{has_line, neither, no_denial, none_fails}
 use Rattle.market.proofs.Sides.{all_on_joined, all_on_walk}
 use Rattle.market.proofs.Walking.{walk_induction}
-use Rattle.market.specs.BookState.{Judged, Plans, entry_outcome, state_of}
-use Rattle.market.specs.Calls.{done, entered, entry_checks, entry_lots, entry_refusal, figures_of, first_of, out_of_step, outcome_of, rest_joins, settle_trades, trades_out_of_step, walk_of}
+use Rattle.market.specs.BookState.{Judged, entry_outcome, state_of}
+use Rattle.market.specs.Calls.{done, entered, entry_checks, entry_lots, entry_refusal, first_of, out_of_step, outcome_of, rest_joins, settle_trades, trades_out_of_step, walk_of}
 use Rattle.market.specs.Carry.{CarriedEntry, EnteredBook, IsInStep, Planned}
 use Rattle.market.specs.Order.{all_on, joined, lots_resting, order_of, party_on}
 use Rattle.market.specs.Rule.{Rule}

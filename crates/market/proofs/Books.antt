@@ -1,5 +1,5 @@
 -- What a book keeps, seen from one side, and what is known besides of every book that calls have led to. Assumes nothing.
-use Rattle.std.proofs.Common.{◌≡◌, ℕ, suc, ◌+◌, ◌<◌, ◌≤◌, Bool, true, false, cond, eqb, ◌⊎◌, List, [], ◌∷◌, ◌++◌, ℤ, None, sym, refl, ap, ◌∙◌, subst, ap₂, inl, inr, append_assoc, append-nil, arith}
+use Rattle.std.proofs.Common.{◌≡◌, ℕ, suc, ◌+◌, ◌<◌, ◌≤◌, false, eqb, ◌⊎◌, List, [], ◌∷◌, ◌++◌, ℤ, None, sym, refl, ap, ◌∙◌, subst, ap₂, inl, inr, append_assoc, append-nil, arith}
 use Rattle.std.specs.List.{AllByRecursion as All}
 use Rattle.std.proofs.lemmas.Bool.{cond-false, ne_eqb}
 use Rattle.clearing.specs.Centre.{Lines}
@@ -8,7 +8,7 @@ use Rattle.clearing.specs.declared.side.Side.{Side}
 use Rattle.clearing.specs.declared.side.Side.TheVariants.{Buy, Sell}
 use Rattle.market.proofs.Histories.{entries, not_numbered}
 use Rattle.market.proofs.Walking.{Prefixed}
-use Rattle.market.specs.Law.{Event, In, Joined, Keeps, Kept, Numbered, deviation_after, entered, entry_number, held_on, lessened_lots, lots_accepted, lots_off, lots_queued, lots_registered, numbered, resting_number, settled_on, total, traded_away}
+use Rattle.market.specs.Law.{Event, In, Joined, Keeps, Kept, Numbered, deviation_after, entered, entry_number, held_on, lessened_lots, lots_accepted, lots_off, lots_queued, lots_registered, numbered, resting_number, settled_on, traded_away}
 use Rattle.market.specs.Order.{quote_of}
 use Rattle.market.specs.Rule.{Rule, meets_across}
 use Rattle.market.specs.State.{State, queue_of, with_book}

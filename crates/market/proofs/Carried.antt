@@ -1,6 +1,5 @@
 -- A walk carried out trade by trade. Assumes nothing.
-use Rattle.std.proofs.Common.{◌≡◌, ℕ, suc, ◌+◌, ◌-◌, ◌<◌, ◌≤◌, min, Bool, true, false, cond, List, [], ◌∷◌, ◌++◌, length, ℤ, sym, refl, ap, ◌∙◌, subst, append_assoc, append-nil, arith}
-use Rattle.std.specs.List.{AllByRecursion as All}
+use Rattle.std.proofs.Common.{◌≡◌, ℕ, suc, ◌+◌, ◌-◌, ◌<◌, ◌≤◌, Bool, true, List, [], ◌∷◌, ◌++◌, length, sym, refl, ap, ◌∙◌, subst, append_assoc, append-nil, arith}
 use Rattle.std.proofs.ByRecursion.{All-weaker}
 use Rattle.std.proofs.lemmas.List.{length_push}
 use Rattle.std.proofs.lemmas.Bool.{and_parts, cond-true}
@@ -16,7 +15,7 @@ use Rattle.dealing.specs.declared.call.Entry.{Entry}
 use Rattle.market.proofs.InStep.{entry_settled_first, holds_fewer, still_in_step, still_reserved}
 use Rattle.market.proofs.PlanTables.{walk_step, walk_still}
 use Rattle.market.proofs.Sides.{all_on_left, is_side_true}
-use Rattle.market.specs.Calls.{settle_trade, settle_trades}
+use Rattle.market.specs.Calls.{settle_trades}
 use Rattle.market.specs.Carry.{CanTrade, Carried, CarriedOut, IsInStep, Least, Planned, Still, TradedFirst}
 use Rattle.market.specs.Order.{account_of, all_on, is_side, left_of, lots_of, lots_resting, party, party_on, side_of, trade_of}
 use Rattle.market.specs.Walk.{Walked, after_trade, walk}

@@ -1,8 +1,8 @@
 -- Lots counted for an account and a side: in a queue, in a trade, and on a centre's line. Assumes nothing.
-use Rattle.std.proofs.Common.{◌≡◌, ℕ, zero, suc, ◌+◌, ◌-◌, ◌≤◌, Bool, true, false, cond, eqb, leb, ◌⊎◌, List, [], ◌∷◌, ◌++◌, ℤ, Some, None, Option, sym, refl, ap, ◌∙◌, subst, inl, inr, arith}
+use Rattle.std.proofs.Common.{◌≡◌, ℕ, zero, suc, ◌+◌, ◌-◌, ◌≤◌, Bool, true, false, cond, eqb, leb, List, [], ◌∷◌, ◌++◌, ℤ, Some, None, Option, sym, refl, ap, ◌∙◌, subst, inl, inr, arith}
 use Rattle.std.specs.Option.{option_map}
 use Rattle.std.specs.List.{insert}
-use Rattle.std.proofs.lemmas.Bool.{cases_Bool, cond_both, cond-false, cond-true, eqb-true, eqb-false, leb-true, leb-false}
+use Rattle.std.proofs.lemmas.Bool.{cases_Bool, cond_both, cond-false, cond-true, eqb-true, eqb-false, leb-true}
 use Rattle.ordered.specs.Key.{eq_z}
 use Rattle.ordered.proofs.Keys.{eq_z_refl, eq_z_true}
 use Rattle.clearing.specs.Centre.{Lines, adjusted}
@@ -11,7 +11,6 @@ use Rattle.clearing.specs.Side.{other}
 use Rattle.clearing.specs.declared.line.Line.{Line}
 use Rattle.clearing.specs.declared.side.Side.{Side}
 use Rattle.clearing.specs.declared.side.Side.TheVariants.{Buy, Sell}
-use Rattle.market.proofs.Histories.{total-append}
 use Rattle.market.proofs.Resting.{Distinct}
 use Rattle.market.specs.Calls.{settle_trade}
 use Rattle.market.specs.Law.{In, counted, held_on, lots_queued, settled_on, total}

@@ -1,5 +1,5 @@
 -- An accepted entry: it is walked, and its rest joins its queue or is taken off. Assumes nothing.
-use Rattle.std.proofs.Common.{◌≡◌, ℕ, suc, ◌+◌, ◌-◌, ◌<◌, ◌≤◌, Bool, true, false, cond, eqb, ltb, ◌⊎◌, List, [], ◌∷◌, ◌++◌, ℤ, Some, None, sym, refl, ap, ◌∙◌, subst, inl, inr, arith}
+use Rattle.std.proofs.Common.{◌≡◌, ℕ, suc, ◌<◌, ◌≤◌, Bool, true, false, ltb, List, [], ◌∷◌, ◌++◌, Some, None, sym, refl, ap, ◌∙◌, subst, inl, inr, arith}
 use Rattle.std.specs.List.{list_all, AllByRecursion as All}
 use Rattle.std.proofs.ByRecursion.{All-append, All-weaker}
 use Rattle.std.proofs.lemmas.Bool.{and_parts, both_ways, cases_Bool, cond-true, false≢true, leb-true, lt-ltb}
@@ -16,17 +16,17 @@ use Rattle.dealing.specs.declared.call.Kind.TheVariants.{Limited, Market}
 use Rattle.dealing.specs.declared.outcome.Figures.{Figures}
 use Rattle.market.proofs.Books.{Book, Reached, book_of, fresh_numbers, joined_later, none_traded, prefixed_at, reached_of, split_at}
 use Rattle.market.proofs.Counts.{counted_none, counted_self, held_held, held_released, settled_released, total_inserted}
-use Rattle.market.proofs.Histories.{deviation-append, entries, entries_append, numbered_on, off-push, total-push}
+use Rattle.market.proofs.Histories.{deviation-append, entries_append, numbered_on, off-push, total-push}
 use Rattle.market.proofs.Joining.{in_inserted, kept_joined, kept_without}
 use Rattle.market.proofs.Resting.{gone, pass_in}
 use Rattle.market.proofs.Walking.{Prefixed, Stopped, WalkedOn, walk_goes}
 use Rattle.market.proofs.Walks.{Midway, head_first, other_differs}
 use Rattle.market.specs.Calls.{entry_lots, figures_of, is_short, settle_trades, walk_of}
-use Rattle.market.specs.Law.{Eligible, Event, First, In, Joined, Kept, Matched, Near, Numbered, accepted_by, counted, deviation_after, entered, entry_number, held_on, lessened_by, lessened_lots, lots_queued, numbered, resting_number, settled_on, traded_away, trades_before}
+use Rattle.market.specs.Law.{Eligible, Event, First, In, Joined, Kept, Matched, Numbered, accepted_by, counted, deviation_after, entered, entry_number, held_on, lessened_by, numbered, resting_number, trades_before}
 use Rattle.market.specs.Order.{account_of, before, joined, lots_of, order_of, quote_of, side_of, sided}
 use Rattle.market.specs.Rule.{Lawful, Rule, meets_across}
 use Rattle.market.specs.State.{State, queue_of, with_book}
-use Rattle.market.specs.Walk.{Walked, eligible_for, entry_quote, near_first}
+use Rattle.market.specs.Walk.{Walked, eligible_for, entry_quote}
 use Rattle.market.specs.declared.order.Order.{Order}
 use Rattle.market.specs.declared.trade.Trade.{Trade}
 

@@ -3,7 +3,7 @@ use Rattle.std.proofs.Common.{◌≡◌, ℕ, suc, ◌+◌, ◌<◌, Bool, true,
 use Rattle.std.proofs.lemmas.Bool.{cond-false, ne_eqb}
 use Rattle.clearing.specs.declared.side.Side.{Side}
 use Rattle.market.specs.Calls.{or_else}
-use Rattle.market.specs.Law.{Accepted, Event, Numbered, deviation_after, entered, lessened, nothing, numbered, off_after, off_by, opened, total}
+use Rattle.market.specs.Law.{Event, Numbered, deviation_after, entered, lessened, nothing, numbered, off_after, off_by, opened, total}
 
 -- a sum over two lists, one after the other
 pub total-append : {X : Type 0} (f : X → ℕ) (xs ys : List X) → total f (xs ++ ys) ≡ total f xs + total f ys

@@ -1,7 +1,7 @@
 -- A queue that an order joins, and what rests after an entry. Assumes nothing.
-use Rattle.std.proofs.Common.{◌≡◌, ℕ, zero, suc, ◌+◌, ◌<◌, ◌≤◌, Bool, true, false, cond, not, ◌&&◌, eqb, ◌⊎◌, List, [], ◌∷◌, ◌++◌, length, get_or, ℤ, pos, Some, None, sym, refl, ap, ◌∙◌, subst, ap₂, inl, inr, arith}
+use Rattle.std.proofs.Common.{◌≡◌, ℕ, zero, suc, ◌<◌, ◌≤◌, Bool, true, not, ◌&&◌, eqb, ◌⊎◌, List, [], ◌∷◌, ◌++◌, length, get_or, pos, Some, None, sym, refl, ap, ◌∙◌, subst, ap₂, inl, inr, arith}
 use Rattle.std.specs.List.{list_all, insert}
-use Rattle.std.proofs.lemmas.Bool.{cases_Bool, cond_both, cond-false, cond-true, eq-eqb, eqb-false, eqb-true, ne_eqb, true≢false, false≢true}
+use Rattle.std.proofs.lemmas.Bool.{cases_Bool, cond-false, cond-true, eq-eqb, eqb-false, eqb-true, ne_eqb, false≢true}
 use Rattle.ordered.specs.Row.{in_order, place}
 use Rattle.ordered.proofs.Orders.{in_order_inserted}
 use Rattle.clearing.specs.declared.side.Side.{Side}
@@ -9,10 +9,10 @@ use Rattle.clearing.specs.declared.side.Side.TheVariants.{Buy, Sell}
 use Rattle.dealing.specs.declared.call.Entry.{Entry}
 use Rattle.dealing.specs.declared.outcome.Figures.{Figures}
 use Rattle.market.proofs.Histories.{numbered-append, or_else_none, total-push}
-use Rattle.market.proofs.Resting.{LacksNumber, gone, rests_with, same_order, with_lots}
+use Rattle.market.proofs.Resting.{LacksNumber, gone, rests_with, same_order}
 use Rattle.market.specs.Calls.{or_else}
-use Rattle.market.specs.Law.{Accepted, Event, In, Kept, Rests, accepted_as, entered, lessened_lots, lessened_by, numbered, total, traded_away}
-use Rattle.market.specs.Order.{account_of, before, by_side, joined, lots_of, order_of, quote_of, side_of, sided}
+use Rattle.market.specs.Law.{Accepted, Event, In, Kept, Rests, accepted_as, entered, lessened_by, numbered}
+use Rattle.market.specs.Order.{before, by_side, joined, lots_of, order_of, side_of, sided}
 use Rattle.market.specs.Rule.{Lawful, Rule}
 use Rattle.market.specs.declared.order.Order.{Order}
 use Rattle.market.specs.declared.trade.Trade.{Trade}

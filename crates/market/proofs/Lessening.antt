@@ -1,7 +1,7 @@
 -- Calls that bring no entry: those after which every order rests as before, and those that take lots off one order.
 -- Assumes nothing.
-use Rattle.std.proofs.Common.{◌≡◌, ℕ, ◌+◌, ◌-◌, ◌<◌, ◌≤◌, Bool, true, false, cond, eqb, ◌⊎◌, List, [], ◌∷◌, ◌++◌, ℤ, pos, Some, None, Option, sym, refl, ap, ◌∙◌, subst, inl, inr, append-nil, arith}
-use Rattle.std.proofs.lemmas.Bool.{cases_Bool, cond_both, cond-false, cond-true, eq-eqb, ne_eqb}
+use Rattle.std.proofs.Common.{◌≡◌, ℕ, ◌<◌, ◌≤◌, eqb, ◌⊎◌, List, [], ◌∷◌, ◌++◌, ℤ, pos, Some, None, sym, refl, ap, ◌∙◌, subst, inl, inr, arith}
+use Rattle.std.proofs.lemmas.Bool.{cases_Bool, cond-false, cond-true, eq-eqb, ne_eqb}
 use Rattle.ordered.specs.Key.{eq_z}
 use Rattle.ordered.specs.Row.{at_key}
 use Rattle.clearing.specs.Centre.{Lines, adjusted}
@@ -16,8 +16,8 @@ use Rattle.market.proofs.Histories.{deviation-append, entries, entries_append, n
 use Rattle.market.proofs.Lowering.{Shift, in_lower, kept_apart, kept_lower}
 use Rattle.market.proofs.Resting.{distinct, gone, rests_once, rests_with}
 use Rattle.market.proofs.Walks.{other_differs}
-use Rattle.market.specs.Calls.{or_else, off_the_book}
-use Rattle.market.specs.Law.{Event, In, Keeps, Kept, Numbered, Rests, accepted_by, counted, deviation_after, entered, held_on, lessened, lessened_by, lots_off, lots_queued, nothing, numbered, off_by, off_entry, opened}
+use Rattle.market.specs.Calls.{or_else}
+use Rattle.market.specs.Law.{Event, In, Keeps, Kept, Numbered, Rests, accepted_by, counted, deviation_after, held_on, lessened, lessened_by, nothing, numbered, off_by, off_entry, opened}
 use Rattle.market.specs.Order.{account_of, lots_of, lower, quote_of, side_of}
 use Rattle.market.specs.Rule.{Lawful, Rule, meets_across}
 use Rattle.market.specs.State.{State, order_numbered, queue_of, with_book}

@@ -1,13 +1,12 @@
 -- A queue one of whose orders is lowered. Assumes nothing.
-use Rattle.std.proofs.Common.{◌≡◌, ℕ, ◌+◌, ◌-◌, ◌<◌, ◌≤◌, Bool, true, false, cond, eqb, leb, ◌⊎◌, List, [], ◌∷◌, ◌++◌, ℤ, sym, refl, ap, ◌∙◌, subst, inl, inr, arith}
+use Rattle.std.proofs.Common.{◌≡◌, ℕ, ◌+◌, ◌-◌, ◌<◌, ◌≤◌, true, eqb, leb, ◌⊎◌, List, [], ◌∷◌, ◌++◌, sym, refl, ap, ◌∙◌, subst, inl, inr, arith}
 use Rattle.std.specs.List.{list_all}
 use Rattle.std.proofs.lemmas.Bool.{and_from, and_parts, cases_Bool, cond_both, cond-false, cond-true, eq-eqb, eqb-false, eqb-true, le-leb, leb-false, leb-true, lt-leb, ne_eqb}
 use Rattle.ordered.specs.Row.{in_order}
 use Rattle.clearing.specs.declared.side.Side.{Side}
-use Rattle.clearing.specs.declared.side.Side.TheVariants.{Buy, Sell}
-use Rattle.market.proofs.Resting.{AllRest, Distinct, LacksNumber, distinct, gone, rests_once, rests_with, with_lots}
-use Rattle.market.specs.Law.{Event, In, Kept, Rests, counted, lots_queued, numbered}
-use Rattle.market.specs.Order.{account_of, before, left_of, lots_of, lower, lowered, side_of}
+use Rattle.market.proofs.Resting.{Distinct, LacksNumber, distinct, gone, rests_once, rests_with, with_lots}
+use Rattle.market.specs.Law.{Event, In, Kept, Rests, numbered}
+use Rattle.market.specs.Order.{before, left_of, lots_of, lower, lowered, side_of}
 use Rattle.market.specs.Rule.{Lawful, Rule}
 use Rattle.market.specs.declared.order.Order.{Order}
 use Rattle.market.specs.declared.trade.Trade.{Trade}

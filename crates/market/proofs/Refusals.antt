@@ -1,5 +1,5 @@
 -- The refusals of an entry, stage by stage. Assumes nothing.
-use Rattle.std.proofs.Common.{◌≡◌, ℕ, zero, suc, ◌+◌, ◌<◌, ◌≤◌, Bool, true, false, cond, ◌||◌, List, [], ◌∷◌, ◌++◌, length, get_or, take, Some, None, Ok, Err, Option, sym, refl, ap, ◌∙◌, subst, ap₂, suc-le-suc, zero-le, arith}
+use Rattle.std.proofs.Common.{◌≡◌, ℕ, zero, suc, ◌+◌, ◌<◌, ◌≤◌, Bool, true, false, cond, ◌||◌, List, [], ◌∷◌, ◌++◌, length, get_or, take, Some, None, Ok, Err, Option, sym, refl, ap, ◌∙◌, ap₂, suc-le-suc, zero-le, arith}
 use Rattle.std.proofs.lemmas.List.{take_more}
 use Rattle.std.proofs.lemmas.Bool.{cond-false, cond-true, or_from, or_left, or_parts, or_right}
 use Rattle.clearing.specs.Centre.{Lines, Own, answered, verdict}
@@ -14,7 +14,7 @@ use Rattle.market.proofs.Carried.{trade_other}
 use Rattle.market.proofs.Walking.{walk_induction}
 use Rattle.market.specs.BookState.{Plans, orders_out_of_step, state_of}
 use Rattle.market.specs.Calls.{Check, centre_denies, check, entry_lots, entry_refusal, first_of, or_else, out_of_step, terms_checks, trades_out_of_step, walk_checks, walk_of}
-use Rattle.market.specs.Order.{account_of, lots_of, party, trade_of}
+use Rattle.market.specs.Order.{account_of, lots_of, party}
 use Rattle.market.specs.Rule.{Rule}
 use Rattle.market.specs.State.{State, queue_of}
 use Rattle.market.specs.Walk.{Walked, eligible_for, walk}

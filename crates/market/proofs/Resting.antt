@@ -1,10 +1,9 @@
 -- Which orders rest, by a history and a register: an order is told by its number, and what becomes of it when the history or
 -- the register grows. Assumes nothing.
-use Rattle.std.proofs.Common.{◌≡◌, ℕ, ◌+◌, ◌≤◌, true, false, ◌⊎◌, List, [], ◌∷◌, ℤ, Some, None, sym, refl, ap, ◌∙◌, subst, inl, inr, arith}
+use Rattle.std.proofs.Common.{◌≡◌, ℕ, ◌+◌, ◌≤◌, true, List, [], ◌∷◌, sym, refl, ap, ◌∙◌, inl, inr, arith}
 use Rattle.std.specs.List.{list_all}
 use Rattle.std.proofs.lemmas.Bool.{and_parts, both_ways}
 use Rattle.ordered.specs.Row.{in_order}
-use Rattle.clearing.specs.declared.side.Side.{Side}
 use Rattle.market.specs.Law.{Accepted, Event, In, Rests, lessened_lots, numbered, traded_away}
 use Rattle.market.specs.Order.{account_of, before, lots_of, order_of, quote_of, side_of}
 use Rattle.market.specs.Rule.{Lawful, Rule}

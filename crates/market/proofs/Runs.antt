@@ -1,9 +1,9 @@
 -- Every call keeps the law, and so does every run. Assumes nothing.
-use Rattle.std.proofs.Common.{◌≡◌, ℕ, zero, suc, ◌+◌, ◌≤◌, Bool, true, false, cond, not, ◌&&◌, ◌||◌, leb, ◌⊎◌, List, [], ◌∷◌, ◌++◌, map, length, take, drop, ℤ, pos, negsuc, nat_abs, Some, None, Ok, Err, Option, sym, refl, ap, ◌∙◌, subst, ap₂, subst₂, inl, inr, append_assoc, append-nil, arith}
+use Rattle.std.proofs.Common.{◌≡◌, ℕ, suc, ◌≤◌, Bool, true, false, leb, List, [], ◌∷◌, ◌++◌, map, length, take, drop, ℤ, pos, negsuc, nat_abs, Some, None, Err, Option, sym, refl, ap, ◌∙◌, subst, ap₂, subst₂, inl, inr, append_assoc, append-nil, arith}
 use Rattle.std.specs.List.{AllByRecursion as All}
-use Rattle.std.proofs.lemmas.List.{length-append, length_push, length-take-le, map_push, take-append-drop, take_at}
+use Rattle.std.proofs.lemmas.List.{length-take-le, map_push, take-append-drop, take_at}
 use Rattle.std.proofs.lemmas.Bool.{and_parts, both_ways, cases_Bool, cond_both, cond-false, cond-true, false≢true, leb-false, not-false, not-true, or_parts}
-use Rattle.clearing.specs.Centre.{Lines, Own, judged, verdict}
+use Rattle.clearing.specs.Centre.{Lines, Own, judged}
 use Rattle.clearing.specs.declared.line.Line.{Line}
 use Rattle.clearing.specs.declared.side.Side.{Side}
 use Rattle.clearing.specs.declared.side.Side.TheVariants.{Buy, Sell}
@@ -18,17 +18,16 @@ use Rattle.dealing.specs.declared.call.Rest.{Rest}
 use Rattle.dealing.specs.declared.call.Rest.TheVariants.{Queue, TakeOff, InFull}
 use Rattle.dealing.specs.declared.outcome.Figures.{Figures}
 use Rattle.dealing.specs.declared.refusal.Refusal.{Refusal}
-use Rattle.dealing.specs.declared.refusal.Refusal.TheVariants.{NotYourOrder, NoSuchOrder, OutOfStep, ReductionOutOfRange}
-use Rattle.market.proofs.Books.{Book, Reached, keeps_of}
+use Rattle.dealing.specs.declared.refusal.Refusal.TheVariants.{NoSuchOrder}
+use Rattle.market.proofs.Books.{Reached, keeps_of}
 use Rattle.market.proofs.Entries.{reached_joined, reached_off}
 use Rattle.market.proofs.Lessening.{order_in, quiet_nothing, quiet_opened, reached_less, reached_quiet}
-use Rattle.market.specs.Calls.{Check, Done, answer, bad_market_terms, centre_denies, done, enter, entered as entered-done, entry_checks, entry_lots, entry_refusal, figures_of, first_of, in_full, is_short, open_market, or_else, outcome_of, queues_rest, reduce, reduce_checks, reduce_order, reduction_fits, rest_joins, resume, suspend, off_the_book, unless, walk_of, withdraw, withdraw_order}
-use Rattle.market.specs.Law.{CallKeepsTheLaw, Event, EveryRunKeepsTheLaw, In, IsRun, Joined, Keeps, Kept, LawfulDay, Rests, entered, entry_event, event_of, events_of, held_on, nothing, numbered, opened, reply_event, settled_on}
-use Rattle.market.specs.Order.{lots_of, side_of}
+use Rattle.market.specs.Calls.{Check, Done, answer, bad_market_terms, centre_denies, done, entered as entered-done, entry_checks, entry_lots, entry_refusal, figures_of, first_of, is_short, or_else, outcome_of, queues_rest, reduce_checks, reduce_order, reduction_fits, rest_joins, unless, walk_of, withdraw_order}
+use Rattle.market.specs.Law.{CallKeepsTheLaw, Event, EveryRunKeepsTheLaw, IsRun, Keeps, Kept, entered, entry_event, event_of, events_of, held_on, nothing, opened, reply_event, settled_on}
+use Rattle.market.specs.Order.{lots_of}
 use Rattle.market.specs.Rule.{Lawful, Rule}
 use Rattle.market.specs.Run.{Clear, Day, EmptyLine, Step, new_day, next_day, run, step}
 use Rattle.market.specs.State.{State, new_market, order_numbered, with_period, with_terms}
-use Rattle.market.specs.Walk.{Walked}
 use Rattle.market.specs.declared.ending.Ending.{Ending}
 use Rattle.market.specs.declared.ending.Ending.TheVariants.{Filled as filled, Own as own, Short as short}
 use Rattle.market.specs.declared.order.Order.{Order}

@@ -1,6 +1,5 @@
 -- Queues whose orders are all of one side stay so. Assumes nothing.
-use Rattle.std.proofs.Common.{◌≡◌, ℕ, zero, suc, Bool, true, false, eqb, leb, ◌⊎◌, List, [], ◌∷◌, ◌++◌, sym, refl, ap, ◌∙◌, inl, inr}
-use Rattle.std.specs.List.{list_all}
+use Rattle.std.proofs.Common.{◌≡◌, ℕ, Bool, true, eqb, leb, List, [], ◌∷◌, ◌++◌, refl, ap, ◌∙◌, inl, inr}
 use Rattle.std.proofs.lemmas.Bool.{and_from, and_parts, cond_both, false≢true}
 use Rattle.ordered.specs.Row.{place}
 use Rattle.ordered.proofs.Orders.{all_pass_inserted}
@@ -11,7 +10,7 @@ use Rattle.market.proofs.Walking.{walk_induction}
 use Rattle.market.specs.Law.{In}
 use Rattle.market.specs.Order.{all_on, is_side, joined, left_of, lots_of, lower, lowered, side_of, sided}
 use Rattle.market.specs.Rule.{Rule}
-use Rattle.market.specs.Walk.{Walked, walk}
+use Rattle.market.specs.Walk.{walk}
 use Rattle.market.specs.declared.order.Order.{Order}
 
 pub is_side_true : (s t : Side) → is_side s t ≡ true → t ≡ s

@@ -1,9 +1,9 @@
 -- A walk from its first trade to its end. Assumes nothing.
-use Rattle.std.proofs.Common.{◌≡◌, ℕ, ◌+◌, ◌-◌, ◌<◌, ◌≤◌, Bool, true, false, not, eqb, leb, List, [], ◌∷◌, ◌++◌, Some, None, sym, refl, ap, ◌∙◌, subst, inl, append_assoc, append-nil, arith}
+use Rattle.std.proofs.Common.{◌≡◌, ℕ, ◌-◌, ◌<◌, ◌≤◌, Bool, true, false, not, eqb, leb, List, [], ◌∷◌, ◌++◌, None, sym, refl, ap, ◌∙◌, subst, inl, append_assoc, append-nil, arith}
 use Rattle.std.specs.List.{AllByRecursion as All}
 use Rattle.std.proofs.lemmas.Bool.{cond_both, eqb-false, eqb-true, false≢true, leb-false, leb-true, not-false, not-true}
 use Rattle.ordered.specs.Key.{eq_z}
-use Rattle.ordered.proofs.Keys.{eq_z_false, eq_z_true}
+use Rattle.ordered.proofs.Keys.{eq_z_false}
 use Rattle.clearing.specs.Centre.{Lines}
 use Rattle.clearing.specs.Side.{other}
 use Rattle.dealing.specs.declared.call.Entry.{Entry}

@@ -1,10 +1,8 @@
 -- What a walk keeps from trade to trade, and which trades it makes. Assumes nothing.
-use Rattle.std.proofs.Common.{◌≡◌, ℕ, ◌+◌, ◌-◌, ◌<◌, ◌≤◌, Bool, true, false, cond, not, eqb, ltb, leb, ◌⊎◌, List, [], ◌∷◌, ◌++◌, ℤ, Some, None, filter, sym, refl, ap, ◌∙◌, subst, inl, inr, append_assoc, append-nil, arith}
-use Rattle.std.specs.List.{list_all, AllByRecursion as All}
+use Rattle.std.proofs.Common.{◌≡◌, ℕ, ◌+◌, ◌-◌, ◌<◌, ◌≤◌, false, cond, eqb, ltb, List, [], ◌∷◌, ◌++◌, ℤ, None, sym, refl, ap, ◌∙◌, inl, inr, append-nil, arith}
+use Rattle.std.specs.List.{list_all}
 use Rattle.std.proofs.lemmas.List.Elements.{filter-append}
-use Rattle.std.proofs.lemmas.Bool.{and_parts, cases_lt, cond_both, cond-false, cond-true, eq-eqb, eqb-false, eqb-true, false≢true, le-ltb, leb-false, leb-true, ne_eqb, not-false, not-true}
-use Rattle.ordered.specs.Key.{eq_z}
-use Rattle.ordered.proofs.Keys.{eq_z_false, eq_z_true}
+use Rattle.std.proofs.lemmas.Bool.{and_parts, cases_lt, cond-false, cond-true, eq-eqb, le-ltb, ne_eqb, not-true}
 use Rattle.clearing.specs.Centre.{Lines}
 use Rattle.clearing.specs.Side.{other}
 use Rattle.clearing.specs.declared.side.Side.{Side}
@@ -12,14 +10,12 @@ use Rattle.clearing.specs.declared.side.Side.TheVariants.{Buy, Sell}
 use Rattle.dealing.specs.declared.call.Entry.{Entry}
 use Rattle.market.proofs.Counts.{counted_self, counted_split, queued_at_least, queued_lower, trade_counts, trade_settled}
 use Rattle.market.proofs.Histories.{total-push}
-use Rattle.market.proofs.Lowering.{Shift, in_lower, kept_apart, kept_lower, lower_first-all, lower_first_part}
+use Rattle.market.proofs.Lowering.{Shift, in_lower, kept_apart, kept_lower}
 use Rattle.market.proofs.Resting.{distinct, pass_in, rests_once}
-use Rattle.market.specs.Calls.{entry_lots, is_short, settle_trade, settle_trades}
+use Rattle.market.specs.Calls.{entry_lots, settle_trade}
 use Rattle.market.specs.Law.{Eligible, Event, First, In, Kept, Matched, Rests, counted, entry_number, held_on, lots_accepted, lots_off, lots_queued, lots_registered, numbered, resting_number, settled_on, trades_before}
-use Rattle.market.specs.Order.{account_of, before, lots_of, lower, lowered, party, quote_of, side_of, trade_of}
+use Rattle.market.specs.Order.{account_of, before, lots_of, lower, party, quote_of, side_of, trade_of}
 use Rattle.market.specs.Rule.{Lawful, Rule, meets_across}
-use Rattle.market.specs.Walk.{Walked, after_trade, walk, walked}
-use Rattle.market.specs.declared.ending.Ending.TheVariants.{Filled as filled, Own as own, Short as short}
 use Rattle.market.specs.declared.order.Order.{Order}
 use Rattle.market.specs.declared.trade.Party.{Party}
 use Rattle.market.specs.declared.trade.Trade.{Trade}

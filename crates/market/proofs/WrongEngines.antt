@@ -1,14 +1,12 @@
 -- What three wrong engines would answer breaks the law. Assumes nothing.
-use Rattle.std.proofs.Common.{◌≡◌, ℕ, ◌+◌, ◌≤◌, true, false, List, [], ◌∷◌, ℤ, pos, sym, refl, ap, subst, arith, lit≤}
+use Rattle.std.proofs.Common.{[], ◌∷◌, pos, sym, refl, ap, subst, arith, lit≤}
 use Rattle.std.proofs.lemmas.Bool.{true≢false}
-use Rattle.clearing.specs.declared.side.Side.{Side}
 use Rattle.clearing.specs.declared.side.Side.TheVariants.{Buy, Sell}
 use Rattle.market.proofs.Counts.{queued_at_least}
-use Rattle.market.specs.Law.{Event, Rests, events_of, lots_registered}
+use Rattle.market.specs.Law.{Rests, events_of, lots_registered}
 use Rattle.market.specs.Order.{order_of}
 use Rattle.market.specs.Wrong.{HeadOnlyIsRefused, IdleCentreIsRefused, InventedLotsAreRefused, first_trade, head_only, inventing}
 use Rattle.market.specs.declared.order.Order.{Order}
-use Rattle.market.specs.declared.trade.Trade.{Trade}
 
 -- the buy that was put to rest, and the sell that it meets
 bought : Rests (events_of head_only) (first_trade ∷ []) (order_of (pos 103) Buy 3 (pos 7001) 5)

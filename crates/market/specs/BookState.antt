@@ -1,5 +1,5 @@
 -- A book as a state of the market, and what its parts are asked. Assumes nothing.
-use Rattle.std.specs.Prelude.{◌≡◌, ℕ, suc, ◌-◌, Bool, true, false, cond, ◌||◌, List, [], ◌∷◌, length, Some, None, Ok, Err, vec_items, Option, Result, ◌==◌}
+use Rattle.std.specs.Prelude.{◌≡◌, ℕ, suc, ◌-◌, Bool, false, cond, ◌||◌, List, [], ◌∷◌, length, Some, None, Ok, Err, vec_items, Result, ◌==◌}
 use Rattle.clearing.specs.Centre.{Lines, Own}
 use Rattle.clearing.specs.Side.{other}
 use Rattle.clearing.specs.declared.side.Side.{Side}

@@ -1,6 +1,6 @@
 -- Carrying the trades of a walk out. Assumes nothing.
-use Rattle.std.specs.Prelude.{◌≡◌, ℕ, ◌+◌, ◌≤◌, min, Bool, true, false, cond, List, [], ◌∷◌, ◌++◌, length, ℤ}
-use Rattle.std.specs.List.{list_all, AllByRecursion as All}
+use Rattle.std.specs.Prelude.{◌≡◌, ℕ, ◌≤◌, min, Bool, true, cond, List, [], ◌∷◌, ◌++◌, length}
+use Rattle.std.specs.List.{AllByRecursion as All}
 use Rattle.clearing.specs.Centre.{Lines, adjusted, holds}
 use Rattle.clearing.specs.Grant.{grant_of}
 use Rattle.clearing.specs.Line.{hold, release}

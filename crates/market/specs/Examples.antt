@@ -1,6 +1,5 @@
 -- Worked examples: calls with the replies that the floor's rules give to them, as a table that is computed. Assumes nothing.
 use Rattle.std.specs.Prelude.{ℕ, zero, suc, ◌+◌, Bool, true, false, cond, ◌&&◌, List, [], ◌∷◌, ◌++◌, map, replicate, ℤ, pos, negsuc, Some, None, Ok, Err, Option, ◌==◌, nat_le, nat_lt}
-use Rattle.std.specs.Int.Signed.{le_z, lt_z}
 use Rattle.ordered.specs.Key.{eq_z}
 use Rattle.clearing.specs.AccountCentre.{account_own}
 use Rattle.clearing.specs.Cause.{cause_number, denied}
@@ -26,7 +25,6 @@ use Rattle.market.specs.Rule.{Rule}
 use Rattle.market.specs.Run.{Day, Step, new_day, run}
 use Rattle.market.specs.declared.order.Order.{Order}
 use Rattle.market.specs.declared.period.Period.TheVariants.{Trading}
-use Rattle.market.specs.declared.rule.Quote.{Quote}
 use Rattle.market.specs.declared.trade.Party.{Party}
 use Rattle.market.specs.declared.trade.Trade.{Trade}
 

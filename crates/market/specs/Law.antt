@@ -1,6 +1,6 @@
 -- The law over runs, told from the history and the register: what rests, and what holds of the queues, of each account's
 -- lots and of each trade. Neither the walk nor a call is named. Assumes nothing.
-use Rattle.std.specs.Prelude.{◌≡◌, ℕ, suc, ◌+◌, ◌<◌, ◌≤◌, min, max, Bool, true, false, cond, ◌&&◌, ◌⊎◌, List, [], ◌∷◌, ◌++◌, map, length, take, ℤ, ◌-ℤ◌, Some, None, Ok, Err, filter, Option, ◌==◌, nat_lt, unsigned_abs}
+use Rattle.std.specs.Prelude.{◌≡◌, ℕ, suc, ◌+◌, ◌<◌, ◌≤◌, min, max, true, false, cond, ◌⊎◌, List, [], ◌∷◌, ◌++◌, map, length, take, ℤ, ◌-ℤ◌, Some, None, Ok, Err, filter, Option, ◌==◌, nat_lt, unsigned_abs}
 use Rattle.ordered.specs.Key.{eq_z}
 use Rattle.ordered.specs.Row.{in_order}
 use Rattle.clearing.specs.Centre.{Lines, Own}
@@ -23,7 +23,6 @@ use Rattle.market.specs.Rule.{Lawful, Rule, meets_across}
 use Rattle.market.specs.Run.{Clear, Day, Step, new_day, run, step}
 use Rattle.market.specs.State.{State, queue_of}
 use Rattle.market.specs.declared.order.Order.{Order}
-use Rattle.market.specs.declared.rule.Quote.{Quote}
 use Rattle.market.specs.declared.trade.Trade.{Trade}
 
 -- What the history tells

@@ -1,5 +1,5 @@
 -- A run: calls given one after another to a new market over a centre. Assumes nothing.
-use Rattle.std.specs.Prelude.{◌≡◌, ℕ, List, [], ◌∷◌, ◌++◌, ℤ, Some, None, Option}
+use Rattle.std.specs.Prelude.{◌≡◌, List, [], ◌∷◌, ◌++◌, ℤ, Some, None, Option}
 use Rattle.clearing.specs.Centre.{Lines, Own}
 use Rattle.clearing.specs.Line.{empty}
 use Rattle.clearing.specs.declared.line.Line.{Line}

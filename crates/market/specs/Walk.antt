@@ -1,7 +1,6 @@
 -- The walk: an entry goes down the other queue from its first order. Assumes nothing.
-use Rattle.std.specs.Prelude.{ℕ, zero, suc, ◌-◌, Bool, true, false, cond, not, List, [], ◌∷◌, ℤ, ◌-ℤ◌, ◌==◌, nat_le, unsigned_abs}
+use Rattle.std.specs.Prelude.{ℕ, ◌-◌, Bool, false, cond, not, List, [], ◌∷◌, ◌-ℤ◌, ◌==◌, nat_le, unsigned_abs}
 use Rattle.ordered.specs.Key.{eq_z}
-use Rattle.clearing.specs.declared.side.Side.{Side}
 use Rattle.dealing.specs.declared.call.Entry.{Entry}
 use Rattle.dealing.specs.declared.call.Kind.{Kind}
 use Rattle.dealing.specs.declared.call.Kind.TheVariants.{Limited, Market}

@@ -1,5 +1,5 @@
 -- Each turn makes the next trade of the plan.
-use Rattle.std.proofs.Common.{◌≡◌, ◌+◌, ◌-◌, true, length, sym, refl, ap, ◌∙◌, subst, arith, w64, SFits, to_z, of_z, rules}
+use Rattle.std.proofs.Common.{◌≡◌, ◌-◌, true, sym, refl, ap, ◌∙◌, subst, arith, w64, SFits, rules}
 use Rattle.std.proofs.lemmas.Int.{to_z-of_z}
 use Rattle.clearing.specs.Centre.{holds}
 use Rattle.clearing.specs.Grant.{grant_of}

@@ -1,5 +1,5 @@
 -- What is reserved, traded and left makes up the entry.
-use Rattle.std.proofs.Common.{◌≡◌, ℕ, cond, ◌++◌, length, sym, ap, ◌∙◌, subst, ap₂}
+use Rattle.std.proofs.Common.{◌≡◌, cond, ◌++◌, length, sym, ap, ◌∙◌, subst, ap₂}
 use Rattle.clearing.specs.Centre.{Lines, adjusted}
 use Rattle.clearing.specs.Line.{hold, release}
 use Rattle.clearing.specs.declared.grant.Grant.{Grant}

@@ -1,12 +1,12 @@
 -- Each turn is one call more of the run.
-use Rattle.std.proofs.Common.{◌≡◌, ◌+◌, [], ◌∷◌, ◌++◌, length, get_or, take, pos, sym, refl, ap, ◌∙◌, subst, ap₂, subst₂, arith}
+use Rattle.std.proofs.Common.{get_or, take, pos, sym, ap, ◌∙◌, subst, ap₂, subst₂, arith}
 use Rattle.std.proofs.lemmas.List.{take_all, take_more}
 use Rattle.std.proofs.lemmas.Result.{IfOk-from_err}
 use Rattle.dealing.specs.declared.call.Call.TheVariants.{Open}
 use Rattle.market.proofs.Runs.{run_on, runs_keep_the_law}
 use Rattle.market.specs.BookState.{state_of}
 use Rattle.market.specs.Calls.{answer}
-use Rattle.market.specs.Law.{IsRun, RunKeepsTheLaw}
+use Rattle.market.specs.Law.{IsRun}
 use Rattle.market.specs.Rule.{Lawful, Rule, rule_of}
 use Rattle.market.specs.declared.standing.ByRule.{ByRule}
 use Rattle.market.proofs.run.run.Given as given

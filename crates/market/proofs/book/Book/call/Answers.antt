@@ -1,5 +1,5 @@
 -- The period decides, or lets the call go on to the orders with nothing changed.
-use Rattle.std.proofs.Common.{◌≡◌, ℕ, Bool, true, false, ℤ, sym, refl, ap, ◌∙◌, subst, w64, SFits, to_z, of_z, rules}
+use Rattle.std.proofs.Common.{◌≡◌, true, ℤ, sym, refl, ap, ◌∙◌, subst, w64, SFits, rules}
 use Rattle.std.proofs.lemmas.Int.{to_z-of_z}
 use Rattle.std.proofs.lemmas.Bool.{false≢true, not-true}
 use Rattle.dealing.specs.declared.call.Call.{Call}

@@ -1,5 +1,5 @@
 -- The entry's own queue is that of its side, and the walk goes down the other.
-use Rattle.std.proofs.Common.{◌≡◌, Ok, sym, refl, ap, ◌∙◌, ap₂}
+use Rattle.std.proofs.Common.{Ok, sym, refl, ap, ◌∙◌, ap₂}
 use Rattle.clearing.specs.declared.side.Side.TheVariants.{Buy, Sell}
 use Rattle.market.proofs.Accepting.{carried_as, carry_needs, plan_left, sides_kept}
 use Rattle.market.specs.BookState.{state_of}

@@ -1,5 +1,5 @@
 -- The refusals are judged stage by stage, each on what the stages before left open.
-use Rattle.std.proofs.Common.{◌≡◌, sym, ap, ◌∙◌, ap₂, w64, SFits, to_z, of_z, rules}
+use Rattle.std.proofs.Common.{◌∙◌, ap₂, w64, SFits, rules}
 use Rattle.std.proofs.lemmas.Int.{to_z-of_z}
 use Rattle.clearing.specs.Centre.{answered, verdict}
 use Rattle.market.proofs.Refusals.{answered_no, answered_yes, by_centre, by_lines, by_terms, by_walk, plan_few, plan_lines}

@@ -1,5 +1,5 @@
 -- The taker's own test is that of the walk, since it has the price of the first order.
-use Rattle.std.proofs.Common.{◌≡◌, length, sym, refl, ap, ◌∙◌, ap₂}
+use Rattle.std.proofs.Common.{◌≡◌, length, refl, ap, ◌∙◌, ap₂}
 use Rattle.clearing.specs.Side.{other}
 use Rattle.market.proofs.PlanTables.{walk_same}
 use Rattle.market.specs.BookState.{state_of, taker_of}
