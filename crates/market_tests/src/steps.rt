@@ -76,12 +76,12 @@ fn does<R: QueueRule, C: Centre>(
 ) -> Result<(), Fail> {
     let call = view.call(ask);
     if let Told::Yes(..) = answer {
-        assert_eq!(rt; in_numbers(market.call(call)), answer);
+        assert_eq!(rt; in_numbers(market.call(call)), answer, "{ask:?}, {view:?}");
         return Ok(());
     }
     let before = look(market);
-    assert_eq!(rt; in_numbers(market.call(call)), answer);
-    assert_eq!(rt; look(market), before);
+    assert_eq!(rt; in_numbers(market.call(call)), answer, "{ask:?}, {view:?}");
+    assert_eq!(rt; look(market), before, "{ask:?}, {view:?}");
     Ok(())
 }
 
@@ -108,11 +108,11 @@ fn shows_orders<R: QueueRule, C: Centre>(
 ) -> Result<(), Fail> {
     let side = view.side(side);
     let orders = market.orders(side);
-    assert_eq!(rt; orders.len(), rows.len());
+    assert_eq!(rt; orders.len(), rows.len(), "{view:?}");
     for (order, row) in orders.iter().zip(rows) {
-        assert_eq!(rt; order.side(), side);
+        assert_eq!(rt; order.side(), side, "{view:?}");
         let found = (order.number(), order.account(), order.price(), order.lots());
-        assert_eq!(rt; found, view.row(*row));
+        assert_eq!(rt; found, view.row(*row), "{view:?}");
     }
     Ok(())
 }
@@ -124,9 +124,9 @@ fn shows_trades<R: QueueRule, C: Centre>(
     deals: &[Deal],
 ) -> Result<(), Fail> {
     let trades = market.trades();
-    assert_eq!(rt; trades.len(), deals.len());
+    assert_eq!(rt; trades.len(), deals.len(), "{view:?}");
     for (trade, deal) in trades.iter().zip(deals) {
-        assert_eq!(rt; *trade, view.trade(*deal));
+        assert_eq!(rt; *trade, view.trade(*deal), "{view:?}");
     }
     Ok(())
 }
@@ -153,7 +153,7 @@ fn take<R: QueueRule, C: Centre>(
         Step::Does(ask, answer) => does(rt, market, view, ask, answer),
         Step::RestsFor(first, last, ask) => rests_for(rt, market, view, (first, last), ask),
         Step::In(period) => {
-            assert_eq!(rt; market.period(), period);
+            assert_eq!(rt; market.period(), period, "{view:?}");
             Ok(())
         },
         Step::Terms(low, high, deviation) => {
@@ -163,7 +163,11 @@ fn take<R: QueueRule, C: Centre>(
         Step::Sells(rows) => shows_orders(rt, market, view, Side::Sell, rows),
         Step::Trades(deals) => shows_trades(rt, market, view, deals),
         Step::Line(account, counts) => {
-            assert_eq!(rt; market.line(account), Some(view.line(counts)));
+            assert_eq!(rt;
+                market.line(account),
+                Some(view.line(counts)),
+                "{account}, {view:?}"
+            );
             Ok(())
         },
     }
@@ -176,7 +180,7 @@ pub fn run<R: QueueRule, C: Centre>(
     steps: &[Step],
 ) -> Result<(), Fail> {
     for step in steps {
-        take(rt, market, view, *step).note(format_args!("{step:?}, {view:?}"))?;
+        take(rt, market, view, *step)?;
     }
     Ok(())
 }
