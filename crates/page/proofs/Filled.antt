@@ -1,11 +1,8 @@
 -- A phrase and the row that it fills tell each other. Assumes nothing.
-use Rattle.std.proofs.Common.{◌≡◌, ℕ, zero, suc, ◌+◌, ◌-◌, ◌<◌, ◌≤◌, Bool, true, false, cond, eqb, List, [], ◌∷◌, ◌++◌, length, get_or, take, drop, replicate, Some, Decides, sym, refl, ap, ◌∙◌, subst, ⊎_elim, add-one, arith}
-use Rattle.std.specs.Cmp.Lexicographic.{Matches}
+use Rattle.std.proofs.Common.{◌≡◌, ℕ, zero, suc, ◌+◌, ◌-◌, ◌<◌, ◌≤◌, true, false, cond, eqb, List, [], ◌∷◌, ◌++◌, length, get_or, take, drop, replicate, Some, sym, refl, ap, ◌∙◌, subst, ⊎_elim, add-one, arith}
 use Rattle.std.specs.Str.{bytes_eq}
-use Rattle.std.proofs.lemmas.Slice.Eq.{slice_eq-Decides, bytes_eq-Decides}
 use Rattle.std.proofs.lemmas.List.{at_drop_more, get_or-map, length-append, length-replicate, take_more}
 use Rattle.std.proofs.lemmas.Bool.{cases_Bool, cond-false, cond-true, eqb-true, ne_eqb}
-use Rattle.std.proofs.lemmas.Bool.Decides.{same_from_decides, Decides-eqb}
 use Rattle.page.specs.Phrases.{ends_blank, filled, found_from, kept_before, phrases, trimmed}
 
 -- the blanks after a phrase make up for those that a trim took away, here where nothing but blanks follows b
@@ -65,10 +62,6 @@ module _ (rows : List (List ℕ)) (i : ℕ) (within : i < length rows) (wide : l
 
   pub found_step : (field : List ℕ) → bytes_eq (get_or rows i []) field ≡ false → found_from i field (phrases (drop i rows)) ≡ found_from (i + 1) field (phrases (drop (i + 1) rows))
   found_step field t = found_here field ∙ cond-false _ _ _ t ∙ ap (λ k. found_from k field (phrases (drop (i + 1) rows))) (sym (add-one i))
-
--- `==` on bytes gives the test of the definitions
-pub same_test : (xs ys : List ℕ) (r : Bool) → Matches (λ (a b : ℕ) (t : Bool). Decides t (a ≡ b)) xs ys r → bytes_eq xs ys ≡ r
-same_test xs ys r m = same_from_decides _ _ (bytes_eq-Decides xs ys) (slice_eq-Decides Decides-eqb xs ys r m)
 
 trimmed_blank : (xs : List ℕ) → trimmed (xs ++ 32 ∷ []) ≡ trimmed xs
 trimmed_blank [] = refl

@@ -1,7 +1,7 @@
 // Replies printed as lines of a page, and read back from them.
 ghost use Rattle.std.specs.Prelude.{◌≡◌, ◌^◌, ◌<◌, ◌≤◌, true, ◌++◌, length, drop, Ok, slice_index_or};
 ghost use Rattle.page.specs.Columns.{across, all_fit, all_narrow, column, digit_of, width_of};
-ghost use Rattle.page.specs.Columns.{numeral as numeral-in};
+ghost use Rattle.page.specs.Columns.{numeral as numeral_in};
 ghost use Rattle.page.specs.Phrases.{phrases};
 ghost use Rattle.page.specs.Printed.{
   cause_numbered,
@@ -156,7 +156,7 @@ fn digit(b: u8) -> u64
 // The number that the digits of some columns make; what is no digit counts 0.
 fn numeral(bytes: &[u8]) -> u64
     requires { length bytes.now ≤ 8 }
-    ensures value { result ≡ numeral-in 0 bytes.now }
+    ensures value { result ≡ numeral_in 0 bytes.now }
     ensures bound { result < 10 ^ length bytes.now }
 {
     let mut n = 0;

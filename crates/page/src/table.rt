@@ -37,7 +37,7 @@ impl PhraseTable {
         ensures bound { IfSome result (λ place. place < 28) }
     {
         for (place, row) in self.rows.iter().enumerate() {
-            if row == columns {
+            if row.as_slice() == columns {
                 return Some(place);
             }
         }

@@ -236,7 +236,7 @@ fn changed_bytes(rt: HostRuntime) {
     assert!(rt; table.print(&line, &mut out).is_ok());
     assert!(rt;
         &out[0..80]
-            == b"      4 55 0 0      3      10       0       5 Part traded, rest off at own order"
+            == b"      4 55 0 0      3      10       0       5 Part traded, rest off at own order".as_slice()
     );
     for i in 0..86usize {
         let mut other = out;

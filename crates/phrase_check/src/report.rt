@@ -107,14 +107,17 @@ mod tests {
         let heap = rt.alloc();
         let empty = changed(heap, 6, b"")?;
         let said = shown(heap, empty.as_slice())?;
-        assert!(rt; said.as_slice() == b"line 7 is empty\n   7  Refused: cannot fill in full\n");
+        assert!(rt;
+            said.as_slice() == b"line 7 is empty\n   7  Refused: cannot fill in full\n".as_slice()
+        );
         let spaced = changed(heap, 27, b"x ")?;
         let said = shown(heap, spaced.as_slice())?;
         assert!(rt;
-            said.as_slice() == b"line 28 begins or ends with a space\n  60  Market opened\n"
+            said.as_slice()
+                == b"line 28 begins or ends with a space\n  60  Market opened\n".as_slice()
         );
         let said = shown(heap, b"")?;
-        assert!(rt; said.as_slice() == b"line 1 is missing\n   1  Not in this period\n");
+        assert!(rt; said.as_slice() == b"line 1 is missing\n   1  Not in this period\n".as_slice());
         Ok(())
     }
 
@@ -125,7 +128,7 @@ mod tests {
         let said = shown(heap, text.as_slice())?;
         let told =
             b"two outcomes share one phrase\n   6  Refused: own order stands first\n  55  Part traded, rest off at own order\n";
-        assert!(rt; said.as_slice() == told);
+        assert!(rt; said.as_slice() == told.as_slice());
         Ok(())
     }
 
@@ -135,7 +138,7 @@ mod tests {
         let mut text = changed(heap, 28, b"")?;
         text.push(b'x')?;
         let said = shown(heap, text.as_slice())?;
-        assert!(rt; said.as_slice() == b"line 29 is one too many\n");
+        assert!(rt; said.as_slice() == b"line 29 is one too many\n".as_slice());
         Ok(())
     }
 }

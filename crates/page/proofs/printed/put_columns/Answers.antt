@@ -5,8 +5,8 @@ use Rattle.page.proofs.printed.put_columns.Goals as goal
 pub overflow_add-at : goal.overflow_add-at
 overflow_add-at c = let room = room_step c.args.columns.now c.loop-c.c-index (record { width = 0; value = 0 }) (omega arith) c.loop-c.at c.loop-c.invariant.1 in search rules
 
-pub slice-bounds-put_number-end : goal.slice-bounds-put_number-end
-slice-bounds-put_number-end c = let room = room_step c.args.columns.now c.loop-c.c-index (record { width = 0; value = 0 }) (omega arith) c.loop-c.at c.loop-c.invariant.1 in search rules
+pub slice_bounds-put_number-end : goal.slice_bounds-put_number-end
+slice_bounds-put_number-end c = let room = room_step c.args.columns.now c.loop-c.c-index (record { width = 0; value = 0 }) (omega arith) c.loop-c.at c.loop-c.invariant.1 in search rules
 
 pub overflow_add-at-in-loop-c : goal.overflow_add-at-in-loop-c
 overflow_add-at-in-loop-c c = let room = room_step c.args.columns.now c.loop-c.c-index (record { width = 0; value = 0 }) (omega arith) c.loop-c.at c.loop-c.invariant.1 in search rules

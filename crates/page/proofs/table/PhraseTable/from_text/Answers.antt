@@ -6,4 +6,4 @@ pub invariant_of-result : goal.invariant_of-result
 invariant_of-result c =
     let rows = c.in_ok-rows.ensures in
     let table = table_sound c.args.text.now _ rows.0 (sym c.in_default.ensures) in
-    (rows.1, (table.count, (table.named, (table.short, (table.ended, (table.apart, tt))))))
+    record { wide = rows.1; count = table.count; named = table.named; short = table.short; ended = table.ended; apart = table.apart }

@@ -16,7 +16,7 @@ pub returns : goal.returns
 returns c =
     let line = c.args.line.now in
     let out = c.args.out.now in
-    let at = sym c.phrase_place.ensures ∙ c.in_ok-place.ensures.ok-part in
+    let at = sym c.phrase_place.ensures ∙ c.in_ok-place.ensures.ok_part in
     let columns = c.layout-columns.ensures in
     let fit = sym (c.if-not-all_fit.ensures ∙ ap all_fit columns) in
     let result = done_result (phrases c.args.self.now.rows) line (length out) c.in_ok-place.place c.if-out-lt-LINE.false at fit in

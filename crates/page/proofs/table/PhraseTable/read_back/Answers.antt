@@ -16,7 +16,7 @@ returns-then-prints c =
     let ps = phrases c.args.self.now.rows in
     let bs = c.args.bytes.now in
     let line = c.guessed-line.ensures in
-    let at = sym c.find.ensures.value ∙ c.in_ok-place.ensures.ok-part in
+    let at = sym c.find.ensures.value ∙ c.in_ok-place.ensures.ok_part in
     let same = ap (λ l. same_line (printed ps l) bs) (sym line) ∙ sym c.if-prints.ensures in
     record {
       value = ap (λ l. Ok l) line ∙ sym (placed_read ps bs _ _ c.if-bytes-lt-LINE.false at same);
@@ -27,6 +27,6 @@ pub returns-else-prints : goal.returns-else-prints
 returns-else-prints c =
     let ps = phrases c.args.self.now.rows in
     let bs = c.args.bytes.now in
-    let at = sym c.find.ensures.value ∙ c.in_ok-place.ensures.ok-part in
+    let at = sym c.find.ensures.value ∙ c.in_ok-place.ensures.ok_part in
     let same = ap (λ l. same_line (printed ps l) bs) (sym c.guessed-line.ensures) ∙ sym c.if-prints.ensures in
     record { value = sym (placed_read ps bs _ _ c.if-bytes-lt-LINE.false at same); prints_back = read_back_prints }
