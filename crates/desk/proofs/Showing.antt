@@ -1,14 +1,12 @@
 -- A reply that the page has room for is printed. Assumes nothing.
-use Rattle.std.proofs.Common.{◌≡◌, ℕ, ◌^◌, ◌<◌, ◌≤◌, true, false, cond, eqb, List, length, is_some, Some, None, Ok, Err, Option, sym, refl, ap, ◌∙◌, subst, arith, lit<, lit≤}
+use Rattle.std.proofs.Common.{◌≡◌, ℕ, ◌^◌, ◌<◌, ◌≤◌, true, false, cond, eqb, List, length, is_some, Some, None, Ok, Err, Option, refl, ap, ◌∙◌, subst, arith, lit<, lit≤}
 use Rattle.std.specs.Option.{ok_or}
 use Rattle.std.proofs.lemmas.Bool.{and_from, cond-false, false≢true, le-ltb, lt-ltb}
 use Rattle.clearing.specs.Cause.{cause_number}
-use Rattle.clearing.specs.declared.cause.Cause.{Cause}
 use Rattle.clearing.specs.declared.cause.Cause.TheVariants.{NoLine, OutOfRange, CentreRule, OverFirmCap, NotHeld, BadSetting}
 use Rattle.clearing.specs.declared.cause.Denial.{Denial}
 use Rattle.dealing.specs.Replies.{Reply, outcome_number, place, refusal_number, reply_number}
 use Rattle.dealing.specs.declared.call.Call.{Call}
-use Rattle.dealing.specs.declared.outcome.Figures.{Figures}
 use Rattle.dealing.specs.declared.outcome.Outcome.{Outcome}
 use Rattle.dealing.specs.declared.outcome.Outcome.TheVariants as outcome
 use Rattle.dealing.specs.declared.refusal.Refusal.{Refusal}

@@ -2,7 +2,6 @@
 use Rattle.std.specs.Prelude.{◌≡◌, ℕ, ◌≤◌, true, List, length, is_some, Ok, Err, Result}
 use Rattle.dealing.specs.Replies.{Reply, place, reply_number}
 use Rattle.dealing.specs.declared.call.Call.{Call}
-use Rattle.dealing.specs.declared.outcome.Figures.{Figures}
 use Rattle.dealing.specs.declared.refusal.Refusal.{Refusal}
 use Rattle.page.specs.declared.printed.PageLine.{PageLine}
 use Rattle.page.specs.Printed.{denial_of, depth_of, figures_of, over, print_result, said}

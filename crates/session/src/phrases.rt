@@ -36,7 +36,7 @@ fn explained(heap: Global, fault: TextFault) -> Result<String, AllocError> {
 pub fn table_of(heap: Global, text: &[u8]) -> anyhow::Result<PhraseTable> {
     match PhraseTable::from_text(text) {
         Ok(table) => Ok(table),
-        Err(fault) => Err(explained(heap, fault)?.into()),
+        Err(fault) => Err(anyhow!(explained(heap, fault)?)),
     }
 }
 

@@ -1,4 +1,4 @@
-use Rattle.std.proofs.Common.{◌≡◌, ℕ, sym, arith, rules}
+use Rattle.std.proofs.Common.{sym, rules}
 use Rattle.desk.proofs.Showing.{refusal_fits}
 use Rattle.desk.proofs.answer.deal.Goals as goal
 
