@@ -1,5 +1,5 @@
 -- The settings of a firm cap. Assumes nothing.
-use Rattle.std.specs.Prelude.{◌≡◌, ℕ, ◌-◌, Bool, true, false, ◌&&◌, set, ℤ, Ok, Err, vec_items, Result, slice_set}
+use Rattle.std.specs.Prelude.{◌≡◌, ℕ, ◌-◌, true, false, ◌&&◌, ℤ, Ok, Err, vec_items, Result, slice_set}
 use Rattle.clearing.specs.Cause.{denied}
 use Rattle.centres.specs.Firms.{Placed, can_place, cap_fits, firm_fits}
 use Rattle.clearing.specs.declared.cause.Cause.TheVariants.{BadSetting}

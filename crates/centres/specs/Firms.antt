@@ -11,7 +11,6 @@ use Rattle.clearing.specs.declared.cause.Cause.TheVariants.{OverFirmCap}
 use Rattle.clearing.specs.declared.cause.Denial.{Denial}
 use Rattle.centres.specs.declared.firm_table.Member.{Member}
 use Rattle.clearing.specs.declared.line.Line.{Line}
-use Rattle.clearing.specs.declared.side.Side.{Side}
 
 abbrev pub member_account : Member → ℤ
 member_account m = m.account

@@ -1,5 +1,5 @@
 -- A centre whose rule judges each account by its own line and its allowance. Assumes nothing.
-use Rattle.std.specs.Prelude.{◌≡◌, ℕ, ◌≤◌, Bool, true, false, cond, ◌&&◌, List, ℤ, Some, None, Ok, Err, vec_items, Option, Result, nat_le, slice_index_or}
+use Rattle.std.specs.Prelude.{◌≡◌, ℕ, Bool, true, false, cond, ◌&&◌, List, ℤ, Some, None, Ok, Err, vec_items, Option, Result, nat_le, slice_index_or}
 use Rattle.ordered.specs.Row.{Found}
 use Rattle.clearing.specs.Cause.{denied}
 use Rattle.clearing.specs.Centre.{Own, verdict}

@@ -1,6 +1,6 @@
 -- What each call of a clearing centre answers and leaves, as a function of its lines and of its own rule.
 -- Assumes nothing.
-use Rattle.std.specs.Prelude.{◌≡◌, ℕ, ◌+◌, ◌-◌, ◌≤◌, Bool, true, false, cond, ◌&&◌, ℤ, Some, None, Ok, Err, Option, Result, nat_le}
+use Rattle.std.specs.Prelude.{◌≡◌, ℕ, ◌-◌, ◌≤◌, Bool, true, false, cond, ◌&&◌, ℤ, Some, None, Ok, Err, Option, Result, nat_le}
 use Rattle.std.specs.Option.{option_map}
 use Rattle.ordered.specs.Key.{eq_z}
 use Rattle.clearing.specs.Cause.{denied}
@@ -13,7 +13,6 @@ use Rattle.clearing.specs.declared.centre.Unsettled.{Unsettled}
 use Rattle.clearing.specs.declared.grant.Grant.{Grant}
 use Rattle.clearing.specs.declared.line.Line.{Line}
 use Rattle.clearing.specs.declared.side.Side.{Side}
-use Rattle.clearing.specs.declared.side.Side.TheVariants.{Buy, Sell}
 
 -- one line for each account, or none
 abbrev pub Lines : Type 0

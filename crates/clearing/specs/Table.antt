@@ -1,5 +1,5 @@
 -- Tables of at most 32 rows, one for an account. Assumes nothing.
-use Rattle.std.specs.Prelude.{ℕ, Bool, cond, not, ◌&&◌, List, length, ℤ, is_some, Some, Option, nat_lt}
+use Rattle.std.specs.Prelude.{Bool, cond, not, ◌&&◌, List, length, ℤ, is_some, Some, Option, nat_lt}
 use Rattle.std.specs.Option.{option_map}
 use Rattle.ordered.specs.Key.{eq_z}
 use Rattle.ordered.specs.Row.{at_key}

@@ -1,11 +1,11 @@
 -- What a row holds after the part from a place on is rotated by one, and that it keeps its order. Assumes nothing.
-use Rattle.std.proofs.Common.{◌≡◌, ℕ, suc, ◌-◌, ◌<◌, ◌≤◌, Bool, true, List, [], ◌∷◌, ◌++◌, length, get_or, take, drop, ap, ◌∙◌, ap₂, inl, inr, add-one, arith}
+use Rattle.std.proofs.Common.{◌≡◌, ℕ, suc, ◌-◌, ◌<◌, ◌≤◌, Bool, true, List, [], ◌∷◌, ◌++◌, length, get_or, take, drop, ap, ◌∙◌, inl, inr, add-one, arith}
 use borrow.Rule.Slice.PartMut.{put_mid}
 use Rattle.std.specs.List.{insert, remove}
 use Rattle.std.proofs.lemmas.List.{append-nil, append_assoc, drop_all, drop-drop, take_rest, take_at, drop_at, take-append-le, drop-append-le, length_push, get_or_push, length-drop, take_all}
 use Rattle.std.proofs.lemmas.List.Edits.{length-remove}
 use Rattle.std.proofs.lemmas.Bool.{cases_lt}
-use Rattle.ordered.specs.Row.{in_order, place, to_end}
+use Rattle.ordered.specs.Row.{in_order, to_end}
 use Rattle.ordered.proofs.Orders.{in_order_removed, in_order-take}
 
 -- the row of some items and one more, by its length: the others, and the last
