@@ -35,9 +35,14 @@ fn moves<C: Centre>(
     for case in cases {
         let answer = match *case {
             Move::Settles(lots, left, after) => settles(rt, centre, order, lots, left, after),
-            Move::Refuses(lots) => does_not_settle(rt, centre, order, lots),
+            Move::Refuses(lots) => {
+                does_not_settle(rt, centre, order, lots);
+                Ok(())
+            }
         };
-        answer.note(format_args!("{case:?}"))?;
+        if let Err(denial) = answer {
+            return Err(Fail::new(format_args!("{case:?}: {denial:?}")));
+        }
     }
     Ok(())
 }
@@ -50,29 +55,25 @@ fn settles<C: Centre>(
     lots: u64,
     left: u64,
     after: [u64; 4],
-) -> Result<(), Fail> {
+) -> Result<(), Denial> {
+    let case = Settles(lots, left, after);
     let (account, side, _) = said(order);
     let beside = others(centre, account);
     settle(centre, order, lots)?;
-    assert_eq!(rt; said(order), (account, side, left));
-    assert_eq!(rt; centre.line(account), Some(line(after)));
-    assert_eq!(rt; others(centre, account), beside);
+    assert_eq!(rt; said(order), (account, side, left), "{case:?}");
+    assert_eq!(rt; centre.line(account), Some(line(after)), "{case:?}");
+    assert_eq!(rt; others(centre, account), beside, "{case:?}");
     Ok(())
 }
 
 // The same grant is handed back, and no line moves.
-fn does_not_settle<C: Centre>(
-    rt: &impl Abort,
-    centre: &mut C,
-    order: &mut Resting,
-    lots: u64,
-) -> Result<(), Fail> {
+fn does_not_settle<C: Centre>(rt: &impl Abort, centre: &mut C, order: &mut Resting, lots: u64) {
+    let case = Refuses(lots);
     let before = lines(centre);
     let grant = said(order);
-    assert_eq!(rt; settle(centre, order, lots), Err(NOT_HELD));
-    assert_eq!(rt; said(order), grant);
-    assert_eq!(rt; lines(centre), before);
-    Ok(())
+    assert_eq!(rt; settle(centre, order, lots), Err(NOT_HELD), "{case:?}");
+    assert_eq!(rt; said(order), grant, "{case:?}");
+    assert_eq!(rt; lines(centre), before, "{case:?}");
 }
 
 fn gives_back<C: Centre>(

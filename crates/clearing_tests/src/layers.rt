@@ -37,16 +37,10 @@ fn set<C: Centre + Drop>(layer: &mut FirmCap<C>, setting: Setting) -> Result<(),
     }
 }
 
-fn is_set(rt: &impl Abort, firms: &FirmTable, setting: Setting) -> Result<(), Fail> {
+fn is_set(rt: &impl Abort, firms: &FirmTable, setting: Setting) {
     match setting {
-        Place(account, firm) => {
-            assert_eq!(rt; firms.firm(account), Some(firm));
-            Ok(())
-        },
-        Cap(firm, cap) => {
-            assert_eq!(rt; firms.cap(firm), cap);
-            Ok(())
-        },
+        Place(account, firm) => assert_eq!(rt; firms.firm(account), Some(firm)),
+        Cap(firm, cap) => assert_eq!(rt; firms.cap(firm), cap),
     }
 }
 
@@ -56,7 +50,7 @@ fn sets<C: Centre + Drop>(
     layer: FirmCap<C>,
     setting: Setting,
     answer: Result<(), Denial>,
-) -> Result<FirmCap<C>, Fail> {
+) -> FirmCap<C> {
     let (below, firms) = layer.into_parts();
     let before = lines(&below);
     let was = table(&firms);
@@ -66,10 +60,10 @@ fn sets<C: Centre + Drop>(
     let (below, firms) = layer.into_parts();
     assert_eq!(rt; lines(&below), before);
     match said {
-        Ok(()) => is_set(rt, &firms, setting)?,
+        Ok(()) => is_set(rt, &firms, setting),
         Err(_) => assert_eq!(rt; table(&firms), was),
     }
-    Ok(FirmCap::new(below, firms))
+    FirmCap::new(below, firms)
 }
 
 // Whether a layer with no firms yet takes each setting.
@@ -111,12 +105,12 @@ fn takes_settings_in_range<C: Centre + Drop>(
     rt: &impl Abort,
     mut layer: FirmCap<C>,
     depth: u8,
-) -> Result<FirmCap<C>, Fail> {
+) -> FirmCap<C> {
     for (setting, fits) in SETTINGS {
         let answer = if fits { Ok(()) } else { no(depth) };
-        layer = sets(rt, layer, setting, answer)?;
+        layer = sets(rt, layer, setting, answer);
     }
-    Ok(layer)
+    layer
 }
 
 // 29 accounts after the three above, the greatest first, and then no more.
@@ -124,14 +118,14 @@ fn takes_32_accounts<C: Centre + Drop>(
     rt: &impl Abort,
     mut layer: FirmCap<C>,
     depth: u8,
-) -> Result<FirmCap<C>, Fail> {
+) -> FirmCap<C> {
     for account in (8i64..37).rev() {
-        layer = sets(rt, layer, Place(account, 5), Ok(()))?;
+        layer = sets(rt, layer, Place(account, 5), Ok(()));
     }
     for account in [37, 2, 999_998, 8] {
-        layer = sets(rt, layer, Place(account, 5), no(depth))?;
+        layer = sets(rt, layer, Place(account, 5), no(depth));
     }
-    Ok(layer)
+    layer
 }
 
 // A layer that has taken all that it can.
@@ -143,8 +137,8 @@ pub fn full_layer<C: Centre + Drop>(
 ) -> Result<FirmCap<C>, Fail> {
     let layer = FirmCap::new(below, FirmTable::new(heap)?);
     assert_eq!(rt; layer.depth(), depth);
-    let layer = takes_settings_in_range(rt, layer, depth)?;
-    takes_32_accounts(rt, layer, depth)
+    let layer = takes_settings_in_range(rt, layer, depth);
+    Ok(takes_32_accounts(rt, layer, depth))
 }
 
 // The same accounts are placed in each layer.

@@ -42,13 +42,28 @@ fn added<R: AccountRule + Drop>(
     centre: &mut AccountCentre<R>,
     account: i64,
     allowance: u64,
-) -> Result<(), Fail> {
+) {
     let beside = others(centre, account);
-    centre.add(account, allowance)?;
-    assert_eq!(rt; centre.line(account), Some(line([0; 4])));
-    assert_eq!(rt; centre.allowance(account), Some(allowance));
-    assert_eq!(rt; others(centre, account), beside);
-    Ok(())
+    assert_eq!(rt;
+        centre.add(account, allowance),
+        Ok(()),
+        "account {account} with {allowance}"
+    );
+    assert_eq!(rt;
+        centre.line(account),
+        Some(line([0; 4])),
+        "account {account} with {allowance}"
+    );
+    assert_eq!(rt;
+        centre.allowance(account),
+        Some(allowance),
+        "account {account} with {allowance}"
+    );
+    assert_eq!(rt;
+        others(centre, account),
+        beside,
+        "account {account} with {allowance}"
+    );
 }
 
 // Cause 6 at the bottom: no line moves, and no allowance.
@@ -57,13 +72,24 @@ fn not_added<R: AccountRule + Drop>(
     centre: &mut AccountCentre<R>,
     account: i64,
     allowance: u64,
-) -> Result<(), Fail> {
+) {
     let own = (centre.line(account), centre.allowance(account));
     let before = (lines(centre), allowances(centre));
-    assert_eq!(rt; centre.add(account, allowance), Err(REFUSED));
-    assert_eq!(rt; (centre.line(account), centre.allowance(account)), own);
-    assert_eq!(rt; (lines(centre), allowances(centre)), before);
-    Ok(())
+    assert_eq!(rt;
+        centre.add(account, allowance),
+        Err(REFUSED),
+        "account {account} with {allowance}"
+    );
+    assert_eq!(rt;
+        (centre.line(account), centre.allowance(account)),
+        own,
+        "account {account} with {allowance}"
+    );
+    assert_eq!(rt;
+        (lines(centre), allowances(centre)),
+        before,
+        "account {account} with {allowance}"
+    );
 }
 
 // Accounts with their allowances, and whether each is added.
@@ -71,16 +97,14 @@ fn adds<R: AccountRule + Drop>(
     rt: &impl Abort,
     centre: &mut AccountCentre<R>,
     cases: &[(i64, u64, bool)],
-) -> Result<(), Fail> {
+) {
     for (account, allowance, fits) in cases {
-        let answer = if *fits {
-            added(rt, centre, *account, *allowance)
+        if *fits {
+            added(rt, centre, *account, *allowance);
         } else {
-            not_added(rt, centre, *account, *allowance)
-        };
-        answer.note(format_args!("account {account} with {allowance}"))?;
+            not_added(rt, centre, *account, *allowance);
+        }
     }
-    Ok(())
 }
 
 const ACCOUNTS: [(i64, u64, bool); 11] = [
@@ -98,18 +122,14 @@ const ACCOUNTS: [(i64, u64, bool); 11] = [
 ];
 
 // 32 accounts, the greatest first, and then no more.
-fn takes_32_accounts<R: AccountRule + Drop>(
-    rt: &impl Abort,
-    centre: &mut AccountCentre<R>,
-) -> Result<(), Fail> {
+fn takes_32_accounts<R: AccountRule + Drop>(rt: &impl Abort, centre: &mut AccountCentre<R>) {
     assert_eq!(rt; centre.depth(), 0);
     for account in (1i64..33).rev() {
-        added(rt, centre, account, 5)?;
+        added(rt, centre, account, 5);
     }
     for account in [33, 40, 999_999, 16] {
-        not_added(rt, centre, account, 5)?;
+        not_added(rt, centre, account, 5);
     }
-    Ok(())
 }
 
 // On an empty centre: accounts in range, and allowances up to the top.
@@ -117,8 +137,8 @@ fn takes_what_is_in_range<R: AccountRule + Drop>(
     rt: &impl Abort,
     centre: &mut AccountCentre<R>,
     top: u64,
-) -> Result<(), Fail> {
-    adds(rt, centre, &ACCOUNTS)?;
+) {
+    adds(rt, centre, &ACCOUNTS);
     let below = top.wrapping_sub(1);
     let above = top.wrapping_add(1);
     adds(
@@ -131,7 +151,7 @@ fn takes_what_is_in_range<R: AccountRule + Drop>(
             (4, u64::MAX, false),
             (4, below, true),
         ],
-    )
+    );
 }
 
 #[test]
@@ -140,12 +160,14 @@ fn a_prepaid_centre_takes_32_accounts_with_deposits_in_range(rt: HostRuntime) ->
         &rt,
         &mut prepaid(rt.alloc(), 200, &[])?,
         1_000_000_000_000_000,
-    )?;
-    takes_32_accounts(&rt, &mut prepaid(rt.alloc(), 200, &[])?)
+    );
+    takes_32_accounts(&rt, &mut prepaid(rt.alloc(), 200, &[])?);
+    Ok(())
 }
 
 #[test]
 fn a_position_centre_takes_32_accounts_with_limits_in_range(rt: HostRuntime) -> Result<(), Fail> {
-    takes_what_is_in_range(&rt, &mut position(rt.alloc(), &[])?, 999_999_999)?;
-    takes_32_accounts(&rt, &mut position(rt.alloc(), &[])?)
+    takes_what_is_in_range(&rt, &mut position(rt.alloc(), &[])?, 999_999_999);
+    takes_32_accounts(&rt, &mut position(rt.alloc(), &[])?);
+    Ok(())
 }

@@ -42,7 +42,9 @@ pub fn sell(account: i64, lots: u64) -> Ask {
 
 pub fn run<C: Centre>(rt: &impl Abort, centre: &mut C, steps: &[Step]) -> Result<(), Fail> {
     for step in steps {
-        take(rt, centre, step).note(format_args!("{step:?}"))?;
+        if let Err(denial) = take(rt, centre, step) {
+            return Err(Fail::new(format_args!("{step:?}: {denial:?}")));
+        }
     }
     Ok(())
 }
@@ -56,11 +58,15 @@ pub fn run_alone<C: Centre + Drop>(
     run(rt, &mut centre, steps)
 }
 
-fn take<C: Centre>(rt: &impl Abort, centre: &mut C, step: &Step) -> Result<(), Fail> {
+// A denial that comes back was not expected.
+fn take<C: Centre>(rt: &impl Abort, centre: &mut C, step: &Step) -> Result<(), Denial> {
     match *step {
-        Step::Hold(ask, after) => moved(rt, centre, ask, false, after),
-        Step::Settle(ask, after) => moved(rt, centre, ask, true, after),
-        Step::Deny(ask, cause, depth) => denied(rt, centre, ask, Denial::new(cause, depth)),
+        Step::Hold(ask, after) => moved(rt, centre, step, ask, false, after),
+        Step::Settle(ask, after) => moved(rt, centre, step, ask, true, after),
+        Step::Deny(ask, cause, depth) => {
+            denied(rt, centre, step, ask, Denial::new(cause, depth));
+            Ok(())
+        }
     }
 }
 
@@ -68,10 +74,11 @@ fn take<C: Centre>(rt: &impl Abort, centre: &mut C, step: &Step) -> Result<(), F
 fn moved<C: Centre>(
     rt: &impl Abort,
     centre: &mut C,
+    step: &Step,
     ask: Ask,
     settles: bool,
     after: [u64; 4],
-) -> Result<(), Fail> {
+) -> Result<(), Denial> {
     let Ask {
         account,
         side,
@@ -80,32 +87,34 @@ fn moved<C: Centre>(
     let before = lines(centre);
     let beside = others(centre, account);
     centre.question(account, side, lots)?;
-    assert_eq!(rt; lines(centre), before);
+    assert_eq!(rt; lines(centre), before, "{step:?}");
     let mut order = reserve(centre, account, side, lots)?;
-    assert_eq!(rt; said(&order), (account, side, lots));
+    assert_eq!(rt; said(&order), (account, side, lots), "{step:?}");
     if settles {
         settle(centre, &mut order, lots)?;
     }
-    assert_eq!(rt; centre.line(account), Some(line(after)));
-    assert_eq!(rt; others(centre, account), beside);
+    assert_eq!(rt; centre.line(account), Some(line(after)), "{step:?}");
+    assert_eq!(rt; others(centre, account), beside, "{step:?}");
     Ok(())
 }
 
 // The question and the reservation give the same denial, and no line moves.
-fn denied<C: Centre>(
-    rt: &impl Abort,
-    centre: &mut C,
-    ask: Ask,
-    denial: Denial,
-) -> Result<(), Fail> {
+fn denied<C: Centre>(rt: &impl Abort, centre: &mut C, step: &Step, ask: Ask, denial: Denial) {
     let Ask {
         account,
         side,
         lots,
     } = ask;
     let before = (lines(centre), centre.line(account));
-    assert_eq!(rt; centre.question(account, side, lots), Err(denial));
-    assert_eq!(rt; reserve(centre, account, side, lots).err(), Some(denial));
-    assert_eq!(rt; (lines(centre), centre.line(account)), before);
-    Ok(())
+    assert_eq!(rt;
+        centre.question(account, side, lots),
+        Err(denial),
+        "{step:?}"
+    );
+    assert_eq!(rt;
+        reserve(centre, account, side, lots).err(),
+        Some(denial),
+        "{step:?}"
+    );
+    assert_eq!(rt; (lines(centre), centre.line(account)), before, "{step:?}");
 }
