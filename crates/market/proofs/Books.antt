@@ -1,6 +1,6 @@
 -- What a book keeps, seen from one side, and what is known besides of every book that calls have led to. Assumes nothing.
 use Rattle.std.proofs.Common.{◌≡◌, ℕ, suc, ◌+◌, ◌<◌, ◌≤◌, false, eqb, ◌⊎◌, List, [], ◌∷◌, ◌++◌, ℤ, None, sym, refl, ap, ◌∙◌, subst, ap₂, inl, inr, append_assoc, append-nil, arith}
-use Rattle.std.specs.List.{AllByRecursion as All}
+use Rattle.std.specs.List.{AllByRecursion}
 use Rattle.std.proofs.lemmas.Bool.{cond-false, ne_eqb}
 use Rattle.clearing.specs.Centre.{Lines}
 use Rattle.clearing.specs.Side.{other}
@@ -116,12 +116,12 @@ split_at (x ∷ xs) ys (b ∷ before) t later e =
 pub record Reached (R : Rule) (E : List Event) (S : State) (L : Lines) : Type 0 where
   pub law : Keeps R E S L
   pub count : S.last ≡ entries E
-  pub trades : All (λ t. entry_number t ≤ S.last) S.register
+  pub trades : AllByRecursion (λ t. entry_number t ≤ S.last) S.register
   pub lessened : (k : ℕ) → S.last < k → lessened_lots E k ≡ 0
   pub deviation : deviation_after 0 E ≡ S.deviation
 
 -- a book of either side with what is known besides
-pub reached_of : (R : Rule) (E : List Event) (L : Lines) (s : Side) (mine theirs : List Order) (k : ℕ) (G : List Trade) (S : State) → Book R E s mine theirs G L → k ≡ entries E → All (λ t. entry_number t ≤ k) G → ((j : ℕ) → k < j → lessened_lots E j ≡ 0) → deviation_after 0 E ≡ S.deviation → Reached R E (with_book s mine theirs k G S) L
+pub reached_of : (R : Rule) (E : List Event) (L : Lines) (s : Side) (mine theirs : List Order) (k : ℕ) (G : List Trade) (S : State) → Book R E s mine theirs G L → k ≡ entries E → AllByRecursion (λ t. entry_number t ≤ k) G → ((j : ℕ) → k < j → lessened_lots E j ≡ 0) → deviation_after 0 E ≡ S.deviation → Reached R E (with_book s mine theirs k G S) L
 reached_of R E L Buy mine theirs k G S b c t l d =
     record { law = book_keeps R E L Buy mine theirs k G S b; count = c; trades = t; lessened = l; deviation = d }
 reached_of R E L Sell mine theirs k G S b c t l d =
@@ -132,7 +132,7 @@ pub fresh_numbers : (R : Rule) (E : List Event) (S : State) (L : Lines) → Reac
 fresh_numbers R E S L r j h = let c = r.count in not_numbered 0 j E r.law.numbers (omega arith)
 
 -- no lots were traded away from a number that is above those of all resting orders that traded
-pub none_traded : (k : ℕ) (G : List Trade) → All (λ t. resting_number t < k) G → traded_away G k ≡ 0
+pub none_traded : (k : ℕ) (G : List Trade) → AllByRecursion (λ t. resting_number t < k) G → traded_away G k ≡ 0
 none_traded k [] all = refl
 none_traded k (t ∷ G) all =
     let x = none_traded k G all.1 in

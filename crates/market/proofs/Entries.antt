@@ -1,6 +1,6 @@
 -- An accepted entry: it is walked, and its rest joins its queue or is taken off. Assumes nothing.
 use Rattle.std.proofs.Common.{◌≡◌, ℕ, suc, ◌<◌, ◌≤◌, Bool, true, false, ltb, List, [], ◌∷◌, ◌++◌, Some, None, sym, refl, ap, ◌∙◌, subst, inl, inr, arith}
-use Rattle.std.specs.List.{list_all, AllByRecursion as All}
+use Rattle.std.specs.List.{list_all, AllByRecursion}
 use Rattle.std.proofs.ByRecursion.{All-append, All-weaker}
 use Rattle.std.proofs.lemmas.Bool.{and_parts, both_ways, cases_Bool, cond-true, false≢true, leb-true, lt-ltb}
 use Rattle.ordered.specs.Row.{place}
@@ -36,7 +36,7 @@ other_other Buy = refl
 other_other Sell = refl
 
 -- trades up to a number are all before a larger one
-all_before : (k : ℕ) (G : List Trade) → All (λ t. entry_number t < k) G → trades_before k G ≡ G
+all_before : (k : ℕ) (G : List Trade) → AllByRecursion (λ t. entry_number t < k) G → trades_before k G ≡ G
 all_before k [] all = refl
 all_before k (t ∷ G) all =
     cond-true (ltb (entry_number t) k) _ _ (lt-ltb _ _ all.0) ∙ ap (λ l. t ∷ l) (all_before k G all.1)

@@ -1,6 +1,6 @@
 -- Every call keeps the law, and so does every run. Assumes nothing.
 use Rattle.std.proofs.Common.{◌≡◌, ℕ, suc, ◌≤◌, Bool, true, false, leb, List, [], ◌∷◌, ◌++◌, map, length, take, drop, ℤ, pos, negsuc, nat_abs, Some, None, Err, Option, sym, refl, ap, ◌∙◌, subst, ap₂, subst₂, inl, inr, append_assoc, append-nil, arith}
-use Rattle.std.specs.List.{AllByRecursion as All}
+use Rattle.std.specs.List.{AllByRecursion}
 use Rattle.std.proofs.lemmas.List.{length-take-le, map_push, take-append-drop, take_at}
 use Rattle.std.proofs.lemmas.Bool.{and_parts, both_ways, cases_Bool, cond_both, cond-false, cond-true, false≢true, leb-false, not-false, not-true, or_parts}
 use Rattle.clearing.specs.Centre.{Lines, Own, judged}
@@ -37,7 +37,7 @@ use Rattle.market.specs.declared.trade.Trade.{Trade}
 -- Refusals
 
 -- where no refusal is first, no condition holds
-pub none_fails : (cs : List Check) → first_of cs ≡ None → All (λ c. c.fails ≡ false) cs
+pub none_fails : (cs : List Check) → first_of cs ≡ None → AllByRecursion (λ c. c.fails ≡ false) cs
 none_fails [] e = tt
 none_fails (c ∷ cs) e =
     elim (cases_Bool c.fails) [

@@ -1,6 +1,6 @@
 -- A walk from its first trade to its end. Assumes nothing.
 use Rattle.std.proofs.Common.{◌≡◌, ℕ, ◌-◌, ◌<◌, ◌≤◌, Bool, true, false, not, eqb, leb, List, [], ◌∷◌, ◌++◌, None, sym, refl, ap, ◌∙◌, subst, inl, append_assoc, append-nil, arith}
-use Rattle.std.specs.List.{AllByRecursion as All}
+use Rattle.std.specs.List.{AllByRecursion}
 use Rattle.std.proofs.lemmas.Bool.{cond_both, eqb-false, eqb-true, false≢true, leb-false, leb-true, not-false, not-true}
 use Rattle.ordered.specs.Key.{eq_z}
 use Rattle.ordered.proofs.Keys.{eq_z_false}
@@ -54,7 +54,7 @@ Stopped eligible (o ∷ q) = eligible o ≡ false
 pub record WalkedOn (R : Rule) (E : List Event) (e : Entry) (k : ℕ) (mine : List Order) (G₀ : List Trade) (eligible : Order → Bool) (G : List Trade) (n : ℕ) (L : Lines) (w : Walked) : Type 0 where
   pub after : Midway R E e k mine G₀ (G ++ w.trades) w.left w.queue (settle_trades L w.trades)
   pub matched : Prefixed (λ before t. Matched R E before e k t) G w.trades
-  pub numbers : All (λ t. (entry_number t ≡ k) × (resting_number t < k)) w.trades
+  pub numbers : AllByRecursion (λ t. (entry_number t ≡ k) × (resting_number t < k)) w.trades
   pub fewer : w.left ≤ n
   pub stopped : is_short w.ending ≡ true → (1 ≤ w.left) × Stopped eligible w.queue
 

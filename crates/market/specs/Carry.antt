@@ -1,6 +1,6 @@
 -- Carrying the trades of a walk out. Assumes nothing.
 use Rattle.std.specs.Prelude.{◌≡◌, ℕ, ◌≤◌, min, Bool, true, cond, List, [], ◌∷◌, ◌++◌, length}
-use Rattle.std.specs.List.{AllByRecursion as All}
+use Rattle.std.specs.List.{AllByRecursion}
 use Rattle.clearing.specs.Centre.{Lines, adjusted, holds}
 use Rattle.clearing.specs.Grant.{grant_of}
 use Rattle.clearing.specs.Line.{hold, release}
@@ -37,7 +37,7 @@ TradedFirst s me m L q G L' q' G' =
 
 -- every account that the trades are made with has its resting lots held
 abbrev pub IsInStep : Lines → Side → List Order → List Trade → Type 0
-IsInStep L z q ts = All (λ t. holds (L (party_on z t).account) z (lots_resting (party_on z t).account q) ≡ true) ts
+IsInStep L z q ts = AllByRecursion (λ t. holds (L (party_on z t).account) z (lots_resting (party_on z t).account q) ≡ true) ts
 
 -- a walk of an entry with n lots makes so many trades, for all of which the lines hold the lots
 pub record Planned (L : Lines) (q : List Order) (e : Entry) (k n trades : ℕ) : Type 0 where
