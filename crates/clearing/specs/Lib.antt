@@ -6,6 +6,7 @@ pub mod Grant
 pub mod Ledger
 pub mod Line
 pub mod Side
+pub mod Words
 pub mod Table
 pub mod Verdicts
 pub mod Seen

@@ -1,7 +1,7 @@
 // The steps of a day, and what is printed of them.
 use crate::order;
 use anyhow::anyhow;
-use clearing::cause::{Cause, Denial};
+use clearing::cause::Denial;
 use clearing::centre::Centre;
 use clearing::line::Line;
 use clearing::resting::Resting;
@@ -34,37 +34,11 @@ const STEPS: [Step; 15] = [
     Step::Enter(103, Side::Buy, 20),
 ];
 
-// A cause in a back office's words.
-fn reason(cause: Cause) -> &'static str {
-    match cause {
-        Cause::NoLine => "the account has no line",
-        Cause::OutOfRange => "the lots are out of range",
-        Cause::CentreRule => "the centre's own rule",
-        Cause::OverFirmCap => "a firm's cap would be passed",
-        Cause::NotHeld => "so many lots are not held",
-        Cause::BadSetting => "no such setting can be made",
-    }
-}
-
 // The end of a line that says what a call answered.
 pub fn tell(rt: &HostRuntime, answer: Result<(), Denial>) -> io::Result<()> {
     match answer {
         Ok(()) => println!(rt; "done"),
-        Err(denial) => {
-            let why = reason(denial.cause);
-            println!(rt;
-                "refused, {why} (cause {}, depth {})",
-                denial.cause.number(),
-                denial.depth
-            )
-        }
-    }
-}
-
-fn word(side: Side) -> &'static str {
-    match side {
-        Side::Buy => "buy",
-        Side::Sell => "sell",
+        Err(denial) => println!(rt; "refused, {denial}"),
     }
 }
 
@@ -72,10 +46,7 @@ fn word(side: Side) -> &'static str {
 pub fn show<C: Centre>(rt: &HostRuntime, centre: &C) -> io::Result<()> {
     println!(rt; "\n    account   buy held   buy settled   sell held   sell settled")?;
     for account in [101, 102, 103] {
-        let line = match centre.line(account) {
-            Some(line) => line,
-            None => Line::new(),
-        };
+        let line = centre.line(account).unwrap_or_else(Line::new);
         let buy = line.buy;
         let sell = line.sell;
         println!(rt;
@@ -94,7 +65,7 @@ fn enter<C: Centre>(
     side: Side,
     lots: u64,
 ) -> anyhow::Result<()> {
-    print!(rt; "Account {account} enters to {} {lots}: ", word(side))?;
+    print!(rt; "Account {account} enters to {side} {lots}: ")?;
     match order::enter(centre, account, side, lots) {
         Ok(resting) => {
             orders.push(resting)?;
@@ -105,32 +76,36 @@ fn enter<C: Centre>(
     Ok(())
 }
 
+// The order with a number.
+fn numbered(orders: &mut [Resting], number: usize) -> anyhow::Result<&mut Resting> {
+    number
+        .checked_sub(1)
+        .and_then(|at| orders.get_mut(at))
+        .ok_or_else(|| anyhow!("no such order"))
+}
+
 fn settle<C: Centre>(
     rt: &HostRuntime,
     centre: &mut C,
-    orders: &mut Vec<Resting>,
+    orders: &mut [Resting],
     number: usize,
     lots: u64,
 ) -> anyhow::Result<()> {
     print!(rt; "Order {number} trades {lots}: ")?;
-    if number < 1 || number > orders.len() {
-        return Err(anyhow!("no such order"));
-    }
-    tell(rt, order::trade(centre, &mut orders[number - 1], lots))?;
+    let order = numbered(orders, number)?;
+    tell(rt, order::trade(centre, order, lots))?;
     Ok(())
 }
 
 fn give_back<C: Centre>(
     rt: &HostRuntime,
     centre: &mut C,
-    orders: &mut Vec<Resting>,
+    orders: &mut [Resting],
     number: usize,
 ) -> anyhow::Result<()> {
     print!(rt; "Order {number} ends: ")?;
-    if number < 1 || number > orders.len() {
-        return Err(anyhow!("no such order"));
-    }
-    match order::withdraw(centre, &mut orders[number - 1]) {
+    let order = numbered(orders, number)?;
+    match order::withdraw(centre, order) {
         Ok(lots) => println!(rt; "{lots} given back")?,
         Err(denial) => tell(rt, Err(denial))?,
     }

@@ -65,10 +65,8 @@ fn both_days(rt: &HostRuntime) -> anyhow::Result<()> {
     println!(rt; "POSITION CENTRE UNDER TWO FIRM CAPS\n")?;
     whole_day(rt, Position, 50)?;
     println!(rt; "\nPREPAID CENTRE, MARGIN 200, UNDER TWO FIRM CAPS\n")?;
-    match Prepaid::new(200) {
-        Ok(rule) => whole_day(rt, rule, 10_000),
-        Err(_) => Err(anyhow!("the margin is out of range")),
-    }
+    let rule = Prepaid::new(200).map_err(|_| anyhow!("the margin is out of range"))?;
+    whole_day(rt, rule, 10_000)
 }
 
 fn main(rt: HostRuntime) -> anyhow::Result<()> {

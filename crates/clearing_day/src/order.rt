@@ -17,20 +17,15 @@ pub fn enter<C: Centre>(
     ensures lines { Entered (C.Centre.own centre.old) (C.Centre.lines centre.old) account side lots (C.Centre.lines centre.new) result }
     ensures settings { C.Centre.own centre.new ≡ C.Centre.own centre.old }
 {
-    match centre.reserve(account, side, lots) {
-        Ok(grant) => Ok(grant.rest()),
-        Err(denial) => Err(denial),
-    }
+    Ok(centre.reserve(account, side, lots)?.rest())
 }
 
 // Whether the order has the lots, and its account's line holds them.
 fn can_move<C: Centre>(centre: &C, order: &Resting, lots: u64) -> bool
     ensures { result ≡ can_move (C.Centre.lines centre.now) order.now lots }
 {
-    match centre.line(order.account()) {
-        Some(line) => lots <= order.lots() && lots <= line.on(order.side()).held,
-        None => false,
-    }
+    centre.line(order.account()).is_some_and(|line| lots <= order.lots()
+        && lots <= line.on(order.side()).held)
 }
 
 // Settles lots of a resting order, which is lowered by them.
