@@ -2,16 +2,14 @@
 use Rattle.std.specs.Prelude.{◌≡◌, ℕ, Bool, true, cond, List, length, ℤ, Some, None, Option, slice_index_or, refl}
 use Rattle.std.proofs.Common.{sym, ap, ap₂, ◌∙◌}
 use Rattle.std.specs.Option.{option_map}
-use Rattle.std.specs.List.{list_all}
 use Rattle.ordered.specs.Row.{Found, Lacks, at_key}
-use Rattle.ordered.proofs.Lookups.{at_key_pass}
 use Rattle.clearing.specs.AccountCentre.{account_own, own_at}
 use Rattle.clearing.specs.Cause.{denied}
 use Rattle.clearing.specs.Centre.{Sound, judged, verdict}
-use Rattle.clearing.specs.Ledger.{account_of, allowances_of, lines_of, sound_row}
+use Rattle.clearing.specs.Ledger.{account_of, allowances_of, lines_of}
 use Rattle.clearing.specs.Line.{in_range}
 use Rattle.clearing.specs.declared.cause.Cause.TheVariants.{CentreRule, NoLine, OutOfRange}
-use Rattle.clearing.specs.declared.ledger.AccountLine.{AccountLine}
+use Rattle.clearing.specs.declared.account_line.AccountLine.{AccountLine}
 use Rattle.clearing.specs.declared.line.Line.{Line}
 use Rattle.clearing.specs.declared.side.Side.{Side}
 use Rattle.clearing.specs.Seen.{seen_found, seen_none}
@@ -27,10 +25,10 @@ module _ (admits : ℕ → Line → Side → ℕ → Bool) (xs : List AccountLin
       let allowance : allowances_of xs a ≡ Some x.allowance = seen_found account_of (λ r. r.allowance) xs a i found x ∙ ap (λ r. Some r.allowance) (sym read) in
       ap₂ (λ k l. judged (λ _ _ s n. own_at admits k l s n) (lines_of xs) a s n l) allowance line
 
--- a line of sound rows is sound
-pub sound_lines : (xs : List AccountLine) (a : ℤ) → list_all sound_row xs ≡ true → Sound (lines_of xs a)
-sound_lines xs a sound = sound_at (at_key account_of xs a) (λ x is. at_key_pass account_of sound_row xs a x sound is)
+-- each line of the rows is sound
+pub sound_lines : (xs : List AccountLine) (a : ℤ) → Sound (lines_of xs a)
+sound_lines xs a = sound_at (at_key account_of xs a)
   where
-    sound_at : (o : Option AccountLine) → ((x : AccountLine) → o ≡ Some x → sound_row x ≡ true) → Sound (option_map (λ r. r.line) o)
-    sound_at None each = tt
-    sound_at (Some x) each = each x refl
+    sound_at : (o : Option AccountLine) → Sound (option_map (λ r. r.line) o)
+    sound_at None = tt
+    sound_at (Some x) = x.sound

@@ -1,6 +1,6 @@
 // A centre over a rule that judges each account by its own line: prepaid, or by position.
 ghost use Rattle.std.specs.Prelude.{◌≡◌, ℕ, [], IfOk, Ok};
-ghost use Rattle.clearing.specs.AccountCentre.{AddedTo, Judged, account_own};
+ghost use Rattle.clearing.specs.AccountCentre.{AddedTo, Judged, PartSettled, account_own};
 ghost use Rattle.clearing.specs.Grant.{grant_of};
 ghost use Rattle.clearing.specs.Ledger.{Adjusted, allowances_of, lines_of};
 ghost use Rattle.clearing.specs.Line.{hold};
@@ -36,10 +36,10 @@ impl<R: AccountRule + Drop> AccountCentre<R> {
     pub fn add(&mut self, account: i64, allowance: u64) -> Result<(), Denial>
         ensures { AddedTo R.AccountRule.top self.old account allowance self.new result }
     {
-        if allowance > R::top() || !self.ledger.add(account, allowance) {
+        if allowance > R::top() {
             return Err(Denial::new(Cause::BadSetting, 0));
         }
-        Ok(())
+        self.ledger.add(account, allowance)
     }
 
     // The deposit or the limit of an account, where it has a line.
@@ -76,6 +76,16 @@ impl<R: AccountRule + Drop> AccountCentre<R> {
         self.ledger.hold(at, side, lots);
         Grant::new(account, side, lots)
     }
+
+    // Settles lots of a grant on its account's line; by cause 5 nothing changes.
+    fn settle_part(&mut self, grant: &Grant, lots: u64) -> Result<(), Denial>
+        ensures { PartSettled self.old grant.now lots self.new result }
+    {
+        if lots > grant.lots() {
+            return Err(Denial::new(Cause::NotHeld, 0));
+        }
+        self.ledger.settle(grant.account(), grant.side(), lots)
+    }
 }
 
 impl<R: AccountRule + Drop> Centre for AccountCentre<R> {
@@ -85,7 +95,7 @@ impl<R: AccountRule + Drop> Centre for AccountCentre<R> {
 
     ghost depth = { λ _. 0 };
 
-    ghost sound = { λ s a. sound_lines s.ledger.rows.items a s.ledger.sound };
+    ghost sound = { λ s a. sound_lines s.ledger.rows.items a };
 
     ghost denies = { Prim.search rules };
 
@@ -96,25 +106,20 @@ impl<R: AccountRule + Drop> Centre for AccountCentre<R> {
     }
 
     fn question(&self, account: i64, side: Side, lots: u64) -> Result<(), Denial> {
-        match self.judge(account, side, lots) {
-            Ok(_) => Ok(()),
-            Err(denial) => Err(denial),
-        }
+        self.judge(account, side, lots)?;
+        Ok(())
     }
 
     fn reserve(&mut self, account: i64, side: Side, lots: u64) -> Result<Grant, Denial> {
-        match self.judge(account, side, lots) {
-            Ok(at) => Ok(self.hold(at, account, side, lots)),
-            Err(denial) => Err(denial),
-        }
+        let at = self.judge(account, side, lots)?;
+        Ok(self.hold(at, account, side, lots))
     }
 
     fn settle(&mut self, grant: Grant, lots: u64) -> Result<Grant, Unsettled> {
-        if lots > grant.lots() || !self.ledger.settle(grant.account(), grant.side(), lots) {
-            let denial = Denial::new(Cause::NotHeld, 0);
-            return Err(Unsettled { grant, denial });
+        match self.settle_part(&grant, lots) {
+            Ok(()) => Ok(grant.less(lots)),
+            Err(denial) => Err(Unsettled { grant, denial }),
         }
-        Ok(grant.less(lots))
     }
 
     fn give_back(&mut self, grant: Grant) -> Result<(), Denial> {
@@ -122,11 +127,7 @@ impl<R: AccountRule + Drop> Centre for AccountCentre<R> {
             .ledger
             .release(grant.account(), grant.side(), grant.lots());
         grant.spend();
-        if released {
-            Ok(())
-        } else {
-            Err(Denial::new(Cause::NotHeld, 0))
-        }
+        released
     }
 
     fn line(&self, account: i64) -> Option<Line> {

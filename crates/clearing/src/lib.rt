@@ -4,7 +4,9 @@
 
 pub mod account;
 pub mod account_centre;
+mod account_line;
 pub mod account_rule;
+pub mod by_account;
 pub mod cause;
 pub mod centre;
 pub mod grant;

@@ -66,11 +66,11 @@ impl Line {
         match side {
             Side::Buy => Line {
                 buy: counts,
-                sell: self.sell,
+                ..*self
             },
             Side::Sell => Line {
-                buy: self.buy,
                 sell: counts,
+                ..*self
             },
         }
     }
@@ -84,50 +84,33 @@ impl Line {
 
     // Lots more are held.
     pub(crate) fn hold(&self, side: Side, lots: u64) -> Line
-        requires sound { sound_line self.now ≡ true }
-        requires room { in_range side lots self.now ≡ true }
-        ensures line { result ≡ hold side lots self.now }
-        ensures sound { sound_line result ≡ true }
+        requires { in_range side lots self.now ≡ true }
+        ensures { result ≡ hold side lots self.now }
     {
-        let counts = self.on(side);
-        let held = counts.held + lots;
-        self.with_side(
-            side,
-            Counts {
-                held,
-                settled: counts.settled,
-            },
-        )
+        let mut counts = self.on(side);
+        counts.held += lots;
+        self.with_side(side, counts)
     }
 
     // Lots go from held to settled.
     pub(crate) fn settle(&self, side: Side, lots: u64) -> Line
         requires sound { sound_line self.now ≡ true }
         requires held { lots ≤ (on side self.now).held }
-        ensures line { result ≡ settle side lots self.now }
-        ensures sound { sound_line result ≡ true }
+        ensures { result ≡ settle side lots self.now }
     {
-        let counts = self.on(side);
-        let held = counts.held - lots;
-        let settled = counts.settled + lots;
-        self.with_side(side, Counts { held, settled })
+        let mut counts = self.on(side);
+        counts.held -= lots;
+        counts.settled += lots;
+        self.with_side(side, counts)
     }
 
     // Lots are no longer held.
     pub(crate) fn release(&self, side: Side, lots: u64) -> Line
-        requires sound { sound_line self.now ≡ true }
-        requires held { lots ≤ (on side self.now).held }
-        ensures line { result ≡ release side lots self.now }
-        ensures sound { sound_line result ≡ true }
+        requires { lots ≤ (on side self.now).held }
+        ensures { result ≡ release side lots self.now }
     {
-        let counts = self.on(side);
-        let held = counts.held - lots;
-        self.with_side(
-            side,
-            Counts {
-                held,
-                settled: counts.settled,
-            },
-        )
+        let mut counts = self.on(side);
+        counts.held -= lots;
+        self.with_side(side, counts)
     }
 }

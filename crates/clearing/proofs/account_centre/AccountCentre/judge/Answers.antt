@@ -19,7 +19,7 @@ pub returns-then-not-has_room : goal.returns-then-not-has_room
 returns-then-not-has_room g c =
     let rows = c.args.self.now.ledger.rows.items in
     let found = passed (λ a. Found account_of rows a (Some c.in-Some.at)) c.args.account c.ranges.account c.in-Some.ensures in
-    verdict_row _ rows c.args.account c.args.side c.args.lots c.in-Some.at c.row-row.result found c.row-row.ensures.value
+    verdict_row _ rows c.args.account c.args.side c.args.lots c.in-Some.at c.row-row.result found c.row-row.ensures
     ∙ cond-false _ _ _ (sym c.if-not-has_room.ensures)
     ∙ ap Some (sym c.new-then-not-has_room.ensures)
 
@@ -27,7 +27,7 @@ pub returns-then-not-admits : goal.returns-then-not-admits
 returns-then-not-admits g c =
     let rows = c.args.self.now.ledger.rows.items in
     let found = passed (λ a. Found account_of rows a (Some c.in-Some.at)) c.args.account c.ranges.account c.in-Some.ensures in
-    verdict_row _ rows c.args.account c.args.side c.args.lots c.in-Some.at c.row-row.result found c.row-row.ensures.value
+    verdict_row _ rows c.args.account c.args.side c.args.lots c.in-Some.at c.row-row.result found c.row-row.ensures
     ∙ cond-true _ _ _ (sym c.if-not-has_room.ensures)
     ∙ cond-false _ _ _ (sym c.if-not-admits.ensures)
     ∙ ap Some (sym c.new-then-not-admits.ensures)
@@ -37,8 +37,8 @@ returns g c =
     let rows = c.args.self.now.ledger.rows.items in
     let found = passed (λ a. Found account_of rows a (Some c.in-Some.at)) c.args.account c.ranges.account c.in-Some.ensures in (
       found,
-      λ d. subst (λ x. in_range c.args.side c.args.lots x.line ≡ true) (get_or_read rows c.in-Some.at c.row-row.result found.0 c.row-row.ensures.value d) (sym c.if-not-has_room.ensures),
-      verdict_row _ rows c.args.account c.args.side c.args.lots c.in-Some.at c.row-row.result found c.row-row.ensures.value
+      λ d. subst (λ x. in_range c.args.side c.args.lots x.line ≡ true) (get_or_read rows c.in-Some.at c.row-row.result found.0 c.row-row.ensures d) (sym c.if-not-has_room.ensures),
+      verdict_row _ rows c.args.account c.args.side c.args.lots c.in-Some.at c.row-row.result found c.row-row.ensures
           ∙ cond-true _ _ _ (sym c.if-not-has_room.ensures)
           ∙ cond-true _ _ _ (sym c.if-not-admits.ensures),
     )

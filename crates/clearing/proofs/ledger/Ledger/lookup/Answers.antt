@@ -16,4 +16,4 @@ pub returns : goal.returns
 returns c =
     let rows = c.args.self.now.rows.items in
     let found = passed (λ a. Found account_of rows a (Some c.in_ok-at.at)) c.args.account c.ranges.account c.in_ok-at.ensures in
-    ap Some c.row.ensures.value ∙ sym (at_key_found account_of rows c.args.account c.in_ok-at.at found c.row.result)
+    ap Some c.row.ensures ∙ sym (at_key_found account_of rows c.args.account c.in_ok-at.at found c.row.result)
