@@ -1,5 +1,5 @@
 -- The test whether two keys are the same, as a fact. Assumes nothing.
-use Rattle.std.proofs.Common.{◌≡◌, true, false, ℤ, pos, negsuc, sym, refl, ap, ◌∙◌, inl, inr}
+use Rattle.std.proofs.Common.{◌≡◌, true, false, ℤ, pos, negsuc, refl, ap, ◌∙◌, inl, inr}
 use Rattle.std.proofs.lemmas.Bool.{eqb-true, eq-eqb, false≢true, both_ways, cases_Bool}
 use Rattle.ordered.specs.Key.{eq_z}
 
@@ -26,8 +26,3 @@ eq_z_false a b f e = both_ways (eq_z a b) f (eq_eq_z a b e)
 -- different keys test different
 pub ne_eq_z : (a b : ℤ) → (a ≡ b → ⊥) → eq_z a b ≡ false
 ne_eq_z a b ne = elim (cases_Bool (eq_z a b)) [ inl t ↦ absurd (ne (eq_z_true a b t)) | inr f ↦ f ]
-
--- the order of the two keys does not matter
-pub eq_z_sym : (a b : ℤ) → eq_z a b ≡ eq_z b a
-eq_z_sym a b =
-    elim (cases_Bool (eq_z b a)) [ inl t ↦ eq_eq_z a b (sym (eq_z_true b a t)) ∙ sym t | inr f ↦ ne_eq_z a b (λ e. eq_z_false b a f (sym e)) ∙ sym f ]

@@ -3,4 +3,3 @@ pub mod Keys
 pub mod Lookups
 pub mod Moves
 pub mod Orders
-pub mod Places
