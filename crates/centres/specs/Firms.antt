@@ -70,6 +70,10 @@ abbrev pub first_no : Option Denial → Option Denial → Option Denial
 first_no None x = x
 first_no (Some d) x = Some d
 
+-- the no of a cap at depth d, where n lots more would pass it
+abbrev pub cap_no : Lines → List Member → List ℕ → ℕ → ℤ → ℕ → Option Denial
+cap_no L ms caps d a n = cond (over_cap L ms caps a n) (Some (denied OverFirmCap d)) None
+
 -- a cap over an own rule: that one is asked first
 abbrev pub cap_own : Own → List Member → List ℕ → ℕ → Own
-cap_own below ms caps d L a s n = first_no (below L a s n) (cond (over_cap L ms caps a n) (Some (denied OverFirmCap d)) None)
+cap_own below ms caps d L a s n = first_no (below L a s n) (cap_no L ms caps d a n)

@@ -1,7 +1,8 @@
 // The firm cap: a layer over any centre, another cap included, that limits what all accounts of a firm come to.
 ghost use Rattle.std.specs.Prelude.{◌≡◌, ◌+◌, ◌^◌, ◌<◌, min};
 ghost use Rattle.centres.specs.FirmCap.{CapSet, PlacedIn};
-ghost use Rattle.centres.specs.Firms.{cap_own, firm_total, over_cap, share_of};
+ghost use Rattle.centres.specs.Firms.{cap_no, cap_own, firm_total, over_cap, share_of};
+ghost use Rattle.clearing.specs.Centre.{answered};
 ghost use Rattle.std.proofs.Common.{rules};
 
 use crate::firm_table::{FirmTable, Member};
@@ -45,20 +46,18 @@ impl<C: Centre + Drop> FirmCap<C> {
     pub fn place(&mut self, account: i64, firm: u64) -> Result<(), Denial>
         ensures { PlacedIn (min (C.Centre.depth self.old.below + 1) 99) self.old account firm self.new result }
     {
-        if !self.firms.place(account, firm) {
-            return Err(Denial::new(Cause::BadSetting, self.layer()));
-        }
-        Ok(())
+        self.firms
+            .place(account, firm)
+            .map_err(|cause| Denial::new(cause, self.layer()))
     }
 
     // Sets the cap of a firm.
     pub fn set_cap(&mut self, firm: u64, cap: u64) -> Result<(), Denial>
         ensures { CapSet (min (C.Centre.depth self.old.below + 1) 99) self.old firm cap self.new result }
     {
-        if !self.firms.set_cap(firm, cap) {
-            return Err(Denial::new(Cause::BadSetting, self.layer()));
-        }
-        Ok(())
+        self.firms
+            .set_cap(firm, cap)
+            .map_err(|cause| Denial::new(cause, self.layer()))
     }
 
     // What a member adds to a firm: all four counts of its line, if it is in that firm. A missing line counts 0.
@@ -69,15 +68,14 @@ impl<C: Centre + Drop> FirmCap<C> {
         if member.firm != firm {
             return 0;
         }
-        match self.below.line(member.account) {
-            Some(line) => line.total(),
-            None => 0,
-        }
+        self.below
+            .line(member.account)
+            .map_or(0, |line| line.total())
     }
 
     // The counts of all accounts of a firm.
     fn total(&self, firm: u64) -> u128
-        ensures value { result ≡ firm_total (C.Centre.lines self.now.below) self.now.firms.members.items firm }
+        ensures value { result ≡ firm_total (C.Centre.lines self.now.below) self.now.firms.members firm }
         ensures bound { result < 2 ^ 72 }
     {
         let members = self.firms.members();
@@ -90,19 +88,29 @@ impl<C: Centre + Drop> FirmCap<C> {
 
     // Whether the account's firm would pass its cap with the new lots.
     fn is_over(&self, account: i64, lots: u64) -> bool
-        ensures { result ≡ over_cap (C.Centre.lines self.now.below) self.now.firms.members.items self.now.firms.caps account lots }
+        ensures { result ≡ over_cap (C.Centre.lines self.now.below) self.now.firms.members self.now.firms.caps account lots }
     {
-        match self.firms.firm(account) {
-            Some(firm) => self.total(firm) + lots as u128 > self.firms.cap(firm) as u128,
-            None => false,
+        self.firms.firm(account).is_some_and(|firm| {
+            let all = self.total(firm) + lots as u128;
+            all > self.firms.cap(firm) as u128
+        })
+    }
+
+    // A no by cause 4, where the account's firm would pass its cap with the new lots.
+    fn within_cap(&self, account: i64, lots: u64) -> Result<(), Denial>
+        ensures { result ≡ answered (cap_no (C.Centre.lines self.now.below) self.now.firms.members self.now.firms.caps (min (C.Centre.depth self.now.below + 1) 99) account lots) }
+    {
+        if self.is_over(account, lots) {
+            return Err(Denial::new(Cause::OverFirmCap, self.layer()));
         }
+        Ok(())
     }
 }
 
 impl<C: Centre + Drop> Centre for FirmCap<C> {
     ghost lines = { λ s. C.Centre.lines s.below };
 
-    ghost own = { λ s. cap_own (C.Centre.own s.below) s.firms.members.items s.firms.caps (min (C.Centre.depth s.below + 1) 99) };
+    ghost own = { λ s. cap_own (C.Centre.own s.below) s.firms.members s.firms.caps (min (C.Centre.depth s.below + 1) 99) };
 
     ghost depth = { λ s. min (C.Centre.depth s.below + 1) 99 };
 
@@ -117,19 +125,14 @@ impl<C: Centre + Drop> Centre for FirmCap<C> {
     }
 
     fn question(&self, account: i64, side: Side, lots: u64) -> Result<(), Denial> {
-        match self.below.question(account, side, lots) {
-            Ok(()) if self.is_over(account, lots) => Err(Denial::new(
-                Cause::OverFirmCap,
-                self.layer(),
-            )),
-            answer => answer,
-        }
+        self.below.question(account, side, lots)?;
+        self.within_cap(account, lots)
     }
 
     fn reserve(&mut self, account: i64, side: Side, lots: u64) -> Result<Grant, Denial> {
-        if self.is_over(account, lots) {
+        if let Err(over) = self.within_cap(account, lots) {
             self.below.question(account, side, lots)?;
-            return Err(Denial::new(Cause::OverFirmCap, self.layer()));
+            return Err(over);
         }
         self.below.reserve(account, side, lots)
     }

@@ -1,12 +1,14 @@
 // Which accounts belong to which firm, and how many lots each firm may come to.
-ghost use Rattle.std.specs.Prelude.{◌≡◌, ◌-◌, ◌≤◌, true, false, ◌&&◌, [], length, replicate, IfOk, vec_len, vec_capacity, slice_set};
+ghost use Rattle.std.specs.Prelude.{◌≡◌, ◌-◌, ◌≤◌, true, false, ◌&&◌, [], length, replicate, IfOk, MatchResult, slice_set};
 ghost use Rattle.centres.specs.Firms.{Placed, can_place, cap_fits, cap_of, firm_fits, firm_of, member_account, member_before};
+ghost use Rattle.clearing.specs.declared.cause.Cause.TheVariants.{BadSetting};
 ghost use Rattle.ordered.specs.Row.{at_key, in_order};
-ghost use Rattle.std.proofs.Common.{rules};
 
 use clearing::account::is_account;
-use ordered::kept::add;
-use ordered::{Standing, find};
+use clearing::by_account::{ByAccount, OfAccount};
+use clearing::cause::Cause;
+use ordered::lookup;
+use ordered::row::Row;
 use std::alloc::{AllocError, Global};
 
 // An account and its firm.
@@ -16,27 +18,11 @@ pub struct Member {
     pub firm: u64,
 }
 
-// Members stand by account, the smaller first.
-#[derive(Clone, Copy)]
-pub struct ByAccount;
+impl OfAccount for Member {
+    ghost account = { member_account };
 
-impl Standing<Member> for ByAccount {
-    ghost key = { member_account };
-
-    ghost stands = { λ _ x y. member_before x y };
-
-    ghost irreflexive = { Prim.search rules };
-
-    ghost transitive = { Prim.search rules };
-
-    ghost decided = { Prim.search rules };
-
-    fn before(&self, a: &Member, b: &Member) -> bool {
-        a.account < b.account
-    }
-
-    fn key_of(&self, item: &Member) -> i64 {
-        item.account
+    fn account(&self) -> i64 {
+        self.account
     }
 }
 
@@ -44,25 +30,23 @@ impl Standing<Member> for ByAccount {
 fn is_firm(firm: u64) -> bool
     ensures { result ≡ firm_fits firm }
 {
-    1 <= firm && firm <= 8
+    (1..=8).contains(&firm)
 }
 
-// At most 32 members, for which there is room from the start, and a cap for each of the eight firms.
+// At most 32 members, by account, and a cap for each of the eight firms.
 #[derive(Drop)]
 pub struct FirmTable {
-    members: Vec<Member>,
+    members: Row<Member, 32>,
     caps: [u64; 8],
-    ghost few: { vec_len members ≤ 32 },
-    ghost room: { 32 ≤ vec_capacity members },
-    ghost ordered: { in_order member_before members.items ≡ true },
+    ghost ordered: { in_order member_before members ≡ true },
 }
 
 impl FirmTable {
     // A table with no members, where each firm's cap is 0. This is the last time that it asks for memory.
     pub fn new(heap: Global) -> Result<FirmTable, AllocError>
-        ensures { IfOk result (λ t. (t.members.items ≡ []) × (t.caps ≡ replicate 8 0)) }
+        ensures { IfOk result (λ t. (t.members ≡ []) × (t.caps ≡ replicate 8 0)) }
     {
-        let members = Vec::with_capacity(heap, 32)?;
+        let members = Row::new(heap)?;
         Ok(FirmTable {
             members,
             caps: [0; 8],
@@ -71,7 +55,7 @@ impl FirmTable {
 
     // The members, by account.
     pub fn members(&self) -> &[Member]
-        ensures value { result.now ≡ self.now.members.items }
+        ensures value { result.now ≡ self.now.members }
         ensures few { length result.now ≤ 32 }
     {
         self.members.as_slice()
@@ -79,20 +63,16 @@ impl FirmTable {
 
     // The member of an account, where there is one.
     fn member(&self, account: i64) -> Option<Member>
-        ensures { result ≡ at_key member_account self.now.members.items account }
+        ensures { result ≡ at_key member_account self.now.members account }
     {
-        let at = find(&ByAccount, self.members(), account)?;
-        Some(self.members[at])
+        lookup(&ByAccount, self.members(), account)
     }
 
     // The firm of an account, where it is in one.
     pub fn firm(&self, account: i64) -> Option<u64>
-        ensures { result ≡ firm_of self.now.members.items account }
+        ensures { result ≡ firm_of self.now.members account }
     {
-        match self.member(account) {
-            Some(member) => Some(member.firm),
-            None => None,
-        }
+        self.member(account).map(|member| member.firm)
     }
 
     // The cap of a firm; 0 where there is no such firm.
@@ -107,38 +87,35 @@ impl FirmTable {
 
     // Whether an account can be placed in a firm.
     fn can_place(&self, account: i64, firm: u64) -> bool
-        ensures { result ≡ can_place self.now.members.items account firm }
+        ensures { result ≡ can_place self.now.members account firm }
     {
         is_account(account)
             && is_firm(firm)
-            && self.members.len() < 32
+            && !self.members.is_full()
             && self.firm(account).is_none()
     }
 
-    // Places an account that is in no firm yet; false where it can't be had.
-    pub(crate) fn place(&mut self, account: i64, firm: u64) -> bool
-        ensures test { result ≡ can_place self.old.members.items account firm }
-        ensures placed { result ≡ true → Placed self.old.members.items account firm self.new.members.items }
-        ensures caps { self.new.caps ≡ self.old.caps }
-        ensures same { result ≡ false → self.new ≡ self.old }
+    // Places an account that is in no firm yet; by cause 6 nothing changes.
+    pub(crate) fn place(&mut self, account: i64, firm: u64) -> Result<(), Cause>
+        ensures { MatchResult result (λ _. (can_place self.old.members account firm ≡ true) × Placed self.old.members account firm self.new.members × (self.new.caps ≡ self.old.caps)) (λ c. (can_place self.old.members account firm ≡ false) × (c ≡ BadSetting) × (self.new ≡ self.old)) }
     {
         if !self.can_place(account, firm) {
-            return false;
+            return Err(Cause::BadSetting);
         }
-        add(&ByAccount, &mut self.members, Member { account, firm }).is_ok()
+        self.members
+            .add(&ByAccount, Member { account, firm })
+            .map(|_| ())
+            .map_err(|_| Cause::BadSetting)
     }
 
-    // Sets the cap of a firm to 0 to 999,999,999; false where the firm or the cap can't be had.
-    pub(crate) fn set_cap(&mut self, firm: u64, cap: u64) -> bool
-        ensures test { result ≡ (firm_fits firm && cap_fits cap) }
-        ensures capped { result ≡ true → self.new.caps ≡ slice_set self.old.caps (firm - 1) cap }
-        ensures members { self.new.members ≡ self.old.members }
-        ensures same { result ≡ false → self.new ≡ self.old }
+    // Sets the cap of a firm to 0 to 999,999,999; by cause 6 nothing changes.
+    pub(crate) fn set_cap(&mut self, firm: u64, cap: u64) -> Result<(), Cause>
+        ensures { MatchResult result (λ _. ((firm_fits firm && cap_fits cap) ≡ true) × (self.new.caps ≡ slice_set self.old.caps (firm - 1) cap) × (self.new.members ≡ self.old.members)) (λ c. ((firm_fits firm && cap_fits cap) ≡ false) × (c ≡ BadSetting) × (self.new ≡ self.old)) }
     {
         if !is_firm(firm) || cap > 999_999_999 {
-            return false;
+            return Err(Cause::BadSetting);
         }
         self.caps[(firm - 1) as usize] = cap;
-        true
+        Ok(())
     }
 }

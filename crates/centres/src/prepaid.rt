@@ -9,6 +9,7 @@ use clearing::cause::{Cause, Denial};
 use clearing::line::Line;
 use clearing::side::Side;
 
+#[derive(Clone, Copy)]
 pub struct Prepaid {
     margin: u64,
     ghost small: { margin ≤ 1000000 },
@@ -19,7 +20,7 @@ impl Prepaid {
     pub fn new(margin: u64) -> Result<Prepaid, Denial>
         ensures { MatchResult result (λ p. (margin_fits margin ≡ true) × (p.margin ≡ margin)) (λ d. (margin_fits margin ≡ false) × (d ≡ denied BadSetting 0)) }
     {
-        if margin < 1 || margin > 1_000_000 {
+        if !(1..=1_000_000).contains(&margin) {
             return Err(Denial::new(Cause::BadSetting, 0));
         }
         Ok(Prepaid { margin })
@@ -29,12 +30,6 @@ impl Prepaid {
         ensures { result ≡ self.now.margin }
     {
         self.margin
-    }
-}
-
-impl Drop for Prepaid {
-    fn drop(self) {
-        let Prepaid { margin: _ } = self;
     }
 }
 

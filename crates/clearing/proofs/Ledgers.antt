@@ -10,8 +10,8 @@ use Rattle.ordered.proofs.Keys.{eq_z_true}
 use Rattle.ordered.proofs.Orders.{in_order-set}
 use Rattle.clearing.specs.Account.{account_fits}
 use Rattle.clearing.specs.Centre.{adjusted, holds}
-use Rattle.clearing.specs.Ledger.{Adjusted, Relined, account_before, account_of, can_add, lines_of, with_line}
-use Rattle.clearing.specs.Line.{on, sound_line}
+use Rattle.clearing.specs.Ledger.{Adjusted, Relined, account_before, account_of, can_add, lines_of}
+use Rattle.clearing.specs.Line.{on}
 use Rattle.clearing.specs.declared.account_line.AccountLine.{AccountLine}
 use Rattle.clearing.specs.declared.line.Line.{Line}
 use Rattle.clearing.specs.declared.side.Side.{Side}

@@ -1,5 +1,5 @@
 -- A centre whose rule judges each account by its own line and its allowance. Assumes nothing.
-use Rattle.std.specs.Prelude.{◌≡◌, ℕ, Bool, true, false, cond, ◌&&◌, List, ℤ, Some, None, Ok, Err, vec_items, Option, Result, nat_le, slice_index_or}
+use Rattle.std.specs.Prelude.{◌≡◌, ℕ, Bool, true, false, cond, ◌&&◌, List, ℤ, Some, None, Ok, Err, Option, Result, nat_le, slice_index_or}
 use Rattle.ordered.specs.Row.{Found}
 use Rattle.clearing.specs.Cause.{denied}
 use Rattle.clearing.specs.Centre.{Own, settles, verdict}
@@ -30,10 +30,10 @@ Judged admits xs a s n (Err d) = verdict (account_own admits (allowances_of xs))
 
 -- an account is added with an allowance within its range, or by cause 6 nothing changes
 abbrev pub AddedTo : {R : Type 0} → ℕ → AccountCentre R → ℤ → ℕ → AccountCentre R → Result (Unit {0}) Denial → Type 0
-AddedTo top c a n c' (Ok x) = ((nat_le n top && can_add (vec_items c.ledger.rows) a) ≡ true) × Added (vec_items c.ledger.rows) a n (vec_items c'.ledger.rows) × (c'.rule ≡ c.rule)
-AddedTo top c a n c' (Err d) = ((nat_le n top && can_add (vec_items c.ledger.rows) a) ≡ false) × (d ≡ denied BadSetting 0) × (c' ≡ c)
+AddedTo top c a n c' (Ok x) = ((nat_le n top && can_add c.ledger.rows a) ≡ true) × Added c.ledger.rows a n c'.ledger.rows × (c'.rule ≡ c.rule)
+AddedTo top c a n c' (Err d) = ((nat_le n top && can_add c.ledger.rows a) ≡ false) × (d ≡ denied BadSetting 0) × (c' ≡ c)
 
 -- n lots of a grant are settled on its account's line, or by cause 5 no row changes
 abbrev pub PartSettled : {R : Type 0} → AccountCentre R → Grant → ℕ → AccountCentre R → Result (Unit {0}) Denial → Type 0
-PartSettled c g n c' (Ok x) = (settles (lines_of (vec_items c.ledger.rows)) g n ≡ true) × Adjusted (vec_items c.ledger.rows) g.account (settle g.side n) (vec_items c'.ledger.rows) × (c'.rule ≡ c.rule)
-PartSettled c g n c' (Err d) = (settles (lines_of (vec_items c.ledger.rows)) g n ≡ false) × (d ≡ denied NotHeld 0) × (vec_items c'.ledger.rows ≡ vec_items c.ledger.rows) × (c'.rule ≡ c.rule)
+PartSettled c g n c' (Ok x) = (settles (lines_of c.ledger.rows) g n ≡ true) × Adjusted c.ledger.rows g.account (settle g.side n) c'.ledger.rows × (c'.rule ≡ c.rule)
+PartSettled c g n c' (Err d) = (settles (lines_of c.ledger.rows) g n ≡ false) × (d ≡ denied NotHeld 0) × (c'.ledger.rows ≡ c.ledger.rows) × (c'.rule ≡ c.rule)

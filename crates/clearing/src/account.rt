@@ -6,5 +6,5 @@ ghost use Rattle.std.specs.Prelude.{◌≡◌};
 pub fn is_account(account: i64) -> bool
     ensures { result ≡ account_fits account }
 {
-    account >= 1 && account <= 999_999
+    (1..=999_999).contains(&account)
 }

@@ -26,7 +26,7 @@ pub struct AccountCentre<R> {
 impl<R: AccountRule + Drop> AccountCentre<R> {
     // A centre with no accounts, and room for 32. This is the last time that it asks for memory.
     pub fn new(heap: Global, rule: R) -> Result<AccountCentre<R>, AllocError>
-        ensures { IfOk result (λ s. (s.rule ≡ rule) × (s.ledger.rows.items ≡ [])) }
+        ensures { IfOk result (λ s. (s.rule ≡ rule) × (s.ledger.rows ≡ [])) }
     {
         let ledger = Ledger::new(heap)?;
         Ok(AccountCentre { rule, ledger })
@@ -44,14 +44,14 @@ impl<R: AccountRule + Drop> AccountCentre<R> {
 
     // The deposit or the limit of an account, where it has a line.
     pub fn allowance(&self, account: i64) -> Option<u64>
-        ensures { result ≡ allowances_of self.now.ledger.rows.items account }
+        ensures { result ≡ allowances_of self.now.ledger.rows account }
     {
         self.ledger.allowance(account)
     }
 
     // Where the account's row is, if the lots would be reserved.
     fn judge(&self, account: i64, side: Side, lots: u64) -> Result<usize, Denial>
-        ensures { Judged (R.AccountRule.admits self.now.rule) self.now.ledger.rows.items account side lots result }
+        ensures { Judged (R.AccountRule.admits self.now.rule) self.now.ledger.rows account side lots result }
     {
         let Some(at) = self.ledger.place(account) else {
             return Err(Denial::new(Cause::NoLine, 0));
@@ -68,9 +68,9 @@ impl<R: AccountRule + Drop> AccountCentre<R> {
 
     // Holds lots that were judged, and makes the grant for them.
     fn hold(&mut self, at: usize, account: i64, side: Side, lots: u64) -> Grant
-        requires { Judged (R.AccountRule.admits self.old.rule) self.old.ledger.rows.items account side lots (Ok at) }
+        requires { Judged (R.AccountRule.admits self.old.rule) self.old.ledger.rows account side lots (Ok at) }
         ensures grant { result ≡ grant_of account side lots }
-        ensures held { Adjusted self.old.ledger.rows.items account (hold side lots) self.new.ledger.rows.items }
+        ensures held { Adjusted self.old.ledger.rows account (hold side lots) self.new.ledger.rows }
         ensures rule { self.new.rule ≡ self.old.rule }
     {
         self.ledger.hold(at, side, lots);
@@ -89,13 +89,13 @@ impl<R: AccountRule + Drop> AccountCentre<R> {
 }
 
 impl<R: AccountRule + Drop> Centre for AccountCentre<R> {
-    ghost lines = { λ s. lines_of s.ledger.rows.items };
+    ghost lines = { λ s. lines_of s.ledger.rows };
 
-    ghost own = { λ s. account_own (R.AccountRule.admits s.rule) (allowances_of s.ledger.rows.items) };
+    ghost own = { λ s. account_own (R.AccountRule.admits s.rule) (allowances_of s.ledger.rows) };
 
     ghost depth = { λ _. 0 };
 
-    ghost sound = { λ s a. sound_lines s.ledger.rows.items a };
+    ghost sound = { λ s a. sound_lines s.ledger.rows a };
 
     ghost denies = { Prim.search rules };
 
@@ -106,8 +106,7 @@ impl<R: AccountRule + Drop> Centre for AccountCentre<R> {
     }
 
     fn question(&self, account: i64, side: Side, lots: u64) -> Result<(), Denial> {
-        self.judge(account, side, lots)?;
-        Ok(())
+        self.judge(account, side, lots).map(|_| ())
     }
 
     fn reserve(&mut self, account: i64, side: Side, lots: u64) -> Result<Grant, Denial> {

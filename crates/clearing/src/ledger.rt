@@ -1,5 +1,5 @@
 // The lines of a centre's accounts, kept in one row by account, each with the number that the house set for it.
-ghost use Rattle.std.specs.Prelude.{◌≡◌, ◌<◌, ◌≤◌, true, false, [], get_or, ℤ, IfOk, MatchResult, Some, vec_len, vec_capacity, slice_index_or};
+ghost use Rattle.std.specs.Prelude.{◌≡◌, ◌<◌, true, false, [], length, get_or, ℤ, IfOk, MatchResult, Some, slice_index_or};
 ghost use Rattle.clearing.specs.Centre.{holds};
 ghost use Rattle.clearing.specs.Cause.{denied};
 ghost use Rattle.clearing.specs.Ledger.{Added, Adjusted, HeldMoved, Holder, account_before, account_of, allowances_of, can_add, lines_of};
@@ -14,76 +14,73 @@ use crate::by_account::ByAccount;
 use crate::cause::{Cause, Denial};
 use crate::line::Line;
 use crate::side::Side;
-use ordered::find;
-use ordered::kept::add;
+use ordered::row::Row;
+use ordered::{find, lookup};
 use std::alloc::{AllocError, Global};
 
-// At most 32 rows, for which there is room from the start.
+// At most 32 rows, by account.
 #[derive(Drop)]
 pub struct Ledger {
-    rows: Vec<AccountLine>,
-    ghost few: { vec_len rows ≤ 32 },
-    ghost room: { 32 ≤ vec_capacity rows },
-    ghost ordered: { in_order account_before rows.items ≡ true },
+    rows: Row<AccountLine, 32>,
+    ghost ordered: { in_order account_before rows ≡ true },
 }
 
 impl Ledger {
     pub(crate) fn new(heap: Global) -> Result<Ledger, AllocError>
-        ensures { IfOk result (λ l. l.rows.items ≡ []) }
+        ensures { IfOk result (λ l. l.rows ≡ []) }
     {
-        let rows = Vec::with_capacity(heap, 32)?;
+        let rows = Row::new(heap)?;
         Ok(Ledger { rows })
     }
 
     // Where the account's row is.
     pub(crate) fn place(&self, account: i64) -> Option<usize>
-        ensures { Found account_of self.now.rows.items account result }
+        ensures { Found account_of self.now.rows account result }
     {
         find(&ByAccount, self.rows.as_slice(), account)
     }
 
     // The row at a place.
     pub(crate) fn row(&self, at: usize) -> AccountLine
-        requires { at < vec_len self.now.rows }
-        ensures { result ≡ slice_index_or self.now.rows.items at result }
+        requires { at < length self.now.rows }
+        ensures { result ≡ slice_index_or self.now.rows at result }
     {
-        self.rows[at]
+        self.rows.as_slice()[at]
     }
 
     // The row of an account, where it has one.
     fn lookup(&self, account: i64) -> Option<AccountLine>
-        ensures { result ≡ at_key account_of self.now.rows.items account }
+        ensures { result ≡ at_key account_of self.now.rows account }
     {
-        let at = self.place(account)?;
-        Some(self.row(at))
+        lookup(&ByAccount, self.rows.as_slice(), account)
     }
 
     // The line of an account, where it has one.
     pub(crate) fn line(&self, account: i64) -> Option<Line>
-        ensures { result ≡ lines_of self.now.rows.items account }
+        ensures { result ≡ lines_of self.now.rows account }
     {
         self.lookup(account).map(|row| row.line)
     }
 
     // The allowance of an account, where it has a row.
     pub(crate) fn allowance(&self, account: i64) -> Option<u64>
-        ensures { result ≡ allowances_of self.now.rows.items account }
+        ensures { result ≡ allowances_of self.now.rows account }
     {
         self.lookup(account).map(|row| row.allowance)
     }
 
     // Holds lots more for the account of a row. No other line moves, and no allowance.
     pub(crate) fn hold(&mut self, at: usize, side: Side, lots: u64)
-        requires within { at < vec_len self.old.rows }
-        requires room { (d : AccountLine) → in_range side lots (get_or self.old.rows.items at d).line ≡ true }
-        ensures held { (a : ℤ) → Found account_of self.old.rows.items a (Some at) → Adjusted self.old.rows.items a (hold side lots) self.new.rows.items }
+        requires within { at < length self.old.rows }
+        requires room { (d : AccountLine) → in_range side lots (get_or self.old.rows at d).line ≡ true }
+        ensures held { (a : ℤ) → Found account_of self.old.rows a (Some at) → Adjusted self.old.rows a (hold side lots) self.new.rows }
     {
-        self.rows[at].hold(side, lots);
+        self.rows.item_mut(at).hold(side, lots);
     }
 
     // Where the row of an account is, if it holds the lots; else the cause is 5.
     fn holder(&self, account: i64, side: Side, lots: u64) -> Result<usize, Denial>
-        ensures { Holder self.now.rows.items account side lots result }
+        ensures { Holder self.now.rows account side lots result }
     {
         let not_held = Denial::new(Cause::NotHeld, 0);
         let Some(at) = self.place(account) else {
@@ -97,39 +94,40 @@ impl Ledger {
 
     // Settles lots that the account holds; by cause 5 nothing changes.
     pub(crate) fn settle(&mut self, account: i64, side: Side, lots: u64) -> Result<(), Denial>
-        ensures { HeldMoved self.old.rows.items account side lots (settle side lots) self.new.rows.items result }
+        ensures { HeldMoved self.old.rows account side lots (settle side lots) self.new.rows result }
     {
         let at = self.holder(account, side, lots)?;
-        self.rows[at].settle(side, lots);
+        self.rows.item_mut(at).settle(side, lots);
         Ok(())
     }
 
     // Lets lots that the account holds go; by cause 5 nothing changes.
     pub(crate) fn release(&mut self, account: i64, side: Side, lots: u64) -> Result<(), Denial>
-        ensures { HeldMoved self.old.rows.items account side lots (release side lots) self.new.rows.items result }
+        ensures { HeldMoved self.old.rows account side lots (release side lots) self.new.rows result }
     {
         let at = self.holder(account, side, lots)?;
-        self.rows[at].release(side, lots);
+        self.rows.item_mut(at).release(side, lots);
         Ok(())
     }
 
     // Whether an account can be added.
     fn can_add(&self, account: i64) -> bool
-        ensures { result ≡ can_add self.now.rows.items account }
+        ensures { result ≡ can_add self.now.rows account }
     {
-        is_account(account) && self.rows.len() < 32 && self.line(account).is_none()
+        is_account(account) && !self.rows.is_full() && self.line(account).is_none()
     }
 
     // Adds an account from 1 to 999,999 that has no row yet, with nothing held or settled; by cause 6 nothing changes.
     pub(crate) fn add(&mut self, account: i64, allowance: u64) -> Result<(), Denial>
-        ensures { MatchResult result (λ _. (can_add self.old.rows.items account ≡ true) × Added self.old.rows.items account allowance self.new.rows.items) (λ d. (can_add self.old.rows.items account ≡ false) × (d ≡ denied BadSetting 0) × (self.new ≡ self.old)) }
+        ensures { MatchResult result (λ _. (can_add self.old.rows account ≡ true) × Added self.old.rows account allowance self.new.rows) (λ d. (can_add self.old.rows account ≡ false) × (d ≡ denied BadSetting 0) × (self.new ≡ self.old)) }
     {
         let refused = Denial::new(Cause::BadSetting, 0);
         if !self.can_add(account) {
             return Err(refused);
         }
         let row = AccountLine::new(account, allowance);
-        add(&ByAccount, &mut self.rows, row)
+        self.rows
+            .add(&ByAccount, row)
             .map(|_| ())
             .map_err(|_| refused)
     }

@@ -79,7 +79,7 @@ impl Line {
     pub(crate) fn has_room(&self, side: Side, lots: u64) -> bool
         ensures { result ≡ in_range side lots self.now }
     {
-        1 <= lots && lots <= 1_000_000 && self.on(side).sum() + lots as u128 <= 999_999_999
+        (1..=1_000_000).contains(&lots) && self.on(side).sum() + lots as u128 <= 999_999_999
     }
 
     // Lots more are held.

@@ -11,13 +11,13 @@ use Rattle.clearing.proofs.account_centre.AccountCentre.judge.Goals as goal
 
 pub returns-in_default : goal.returns-in_default
 returns-in_default g c =
-    let rows = c.args.self.now.ledger.rows.items in
+    let rows = c.args.self.now.ledger.rows in
     let lacks = passed (λ a. Lacks account_of rows a (length rows)) c.args.account c.ranges.account c.in_default.ensures in
     verdict_none _ rows c.args.account c.args.side c.args.lots lacks ∙ ap Some (sym c.new.ensures)
 
 pub returns-then-not-has_room : goal.returns-then-not-has_room
 returns-then-not-has_room g c =
-    let rows = c.args.self.now.ledger.rows.items in
+    let rows = c.args.self.now.ledger.rows in
     let found = passed (λ a. Found account_of rows a (Some c.in-Some.at)) c.args.account c.ranges.account c.in-Some.ensures in
     verdict_row _ rows c.args.account c.args.side c.args.lots c.in-Some.at c.row-row.result found c.row-row.ensures
     ∙ cond-false _ _ _ (sym c.if-not-has_room.ensures)
@@ -25,7 +25,7 @@ returns-then-not-has_room g c =
 
 pub returns-then-not-admits : goal.returns-then-not-admits
 returns-then-not-admits g c =
-    let rows = c.args.self.now.ledger.rows.items in
+    let rows = c.args.self.now.ledger.rows in
     let found = passed (λ a. Found account_of rows a (Some c.in-Some.at)) c.args.account c.ranges.account c.in-Some.ensures in
     verdict_row _ rows c.args.account c.args.side c.args.lots c.in-Some.at c.row-row.result found c.row-row.ensures
     ∙ cond-true _ _ _ (sym c.if-not-has_room.ensures)
@@ -34,7 +34,7 @@ returns-then-not-admits g c =
 
 pub returns : goal.returns
 returns g c =
-    let rows = c.args.self.now.ledger.rows.items in
+    let rows = c.args.self.now.ledger.rows in
     let found = passed (λ a. Found account_of rows a (Some c.in-Some.at)) c.args.account c.ranges.account c.in-Some.ensures in (
       found,
       λ d. subst (λ x. in_range c.args.side c.args.lots x.line ≡ true) (get_or_read rows c.in-Some.at c.row-row.result found.0 c.row-row.ensures d) (sym c.if-not-has_room.ensures),

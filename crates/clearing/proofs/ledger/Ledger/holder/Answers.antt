@@ -13,20 +13,22 @@ use Rattle.clearing.proofs.ledger.Ledger.holder.Goals as goal
 
 pub returns-in_default : goal.returns-in_default
 returns-in_default c =
-    let rows = c.args.self.now.rows.items in
+    let rows = c.args.self.now.rows in
     let lacks = passed (λ a. Lacks account_of rows a (length rows)) c.args.account c.ranges.account c.in_default.ensures in
     (ap (λ o. holds o c.args.side c.args.lots) (seen_none account_of (λ r. r.line) rows c.args.account lacks), c.new-not_held.ensures)
 
 pub returns-then-lots-on : goal.returns-then-lots-on
 returns-then-lots-on c =
-    let rows = c.args.self.now.rows.items in
-    let found = passed (λ a. Found account_of rows a (Some c.in-Some.at)) c.args.account c.ranges.account c.in-Some.ensures in
-    (holds_row rows c.in-Some.at c.args.account c.args.side c.args.lots c.row.result found c.row.ensures
-        ∙ lt-leb _ _ (omega (arith, c.if-lots-on.true, ap (λ x. x.held) c.on.ensures)), c.new-not_held.ensures)
+    let rows = c.args.self.now.rows in
+    let found = passed (λ a. Found account_of rows a (Some c.in-Some.at)) c.args.account c.ranges.account c.in-Some.ensures in (
+      holds_row rows c.in-Some.at c.args.account c.args.side c.args.lots c.row.result found c.row.ensures
+          ∙ lt-leb _ _ (omega (arith, c.if-lots-on.true, ap (λ x. x.held) c.on.ensures)),
+      c.new-not_held.ensures,
+    )
 
 pub returns : goal.returns
 returns c =
-    let rows = c.args.self.now.rows.items in
+    let rows = c.args.self.now.rows in
     let found = passed (λ a. Found account_of rows a (Some c.in-Some.at)) c.args.account c.ranges.account c.in-Some.ensures in
     let holding : c.args.lots ≤ (on c.args.side c.row.result.line).held = omega (arith, c.if-lots-on.false, ap (λ x. x.held) c.on.ensures) in (
       found,

@@ -8,15 +8,15 @@ use Rattle.clearing.proofs.ledger.Ledger.release.Goals as goal
 
 pub release-requires : goal.release-requires
 release-requires c =
-    subst (λ x. c.args.lots ≤ (on c.args.side x.line).held) (sym c.index_mut.ensures.value) (c.in_ok-at.ensures.2 c.index_mut.result.now)
+    subst (λ x. c.args.lots ≤ (on c.args.side x.line).held) (sym c.item_mut.ensures.value) (c.in_ok-at.ensures.2 c.item_mut.result.now)
 
-pub invariant_of-self-clause-ordered : goal.invariant_of-self-clause-ordered
-invariant_of-self-clause-ordered c =
+pub invariant_of-self : goal.invariant_of-self
+invariant_of-self c =
     let l = c.args.self.now in
-    still_in_order l.rows.items c.in_ok-at.at c.index_mut.result.now (release c.args.side c.args.lots) c.index_mut.ensures.value c.release.new.self c.release.ensures c.in_ok-at.ensures.0.0 l.ordered
+    record { ordered = still_in_order l.rows c.in_ok-at.at c.item_mut.result.now (release c.args.side c.args.lots) c.item_mut.ensures.value c.release.new.self c.release.ensures c.in_ok-at.ensures.0.0 l.ordered }
 
 pub returns : goal.returns
 returns c =
-    let rows = c.args.self.now.rows.items in
+    let rows = c.args.self.now.rows in
     let h = passed (λ a. Holder rows a c.args.side c.args.lots (Ok c.in_ok-at.at)) c.args.account c.ranges.account c.in_ok-at.ensures in
-    (h.1, adjusted_row rows c.in_ok-at.at c.index_mut.result.now (release c.args.side c.args.lots) c.index_mut.ensures.value c.release.new.self c.release.ensures c.args.account h.0)
+    (h.1, adjusted_row rows c.in_ok-at.at c.item_mut.result.now (release c.args.side c.args.lots) c.item_mut.ensures.value c.release.new.self c.release.ensures c.args.account h.0)
