@@ -43,29 +43,17 @@ impl Grant {
     }
 
     // The grant without lots that were settled.
-    pub(crate) fn less(self, lots: u64) -> Grant
+    pub(crate) fn less(mut self, lots: u64) -> Grant
         requires { lots ≤ self.lots }
         ensures { result ≡ grant_of self.account self.side (self.lots - lots) }
     {
-        let Grant {
-            account,
-            side,
-            lots: all,
-        } = self;
-        Grant {
-            account,
-            side,
-            lots: all - lots,
-        }
+        self.lots -= lots;
+        self
     }
 
-    // The end of a grant whose lots are given back.
-    pub(crate) fn spend(self) {
-        let Grant {
-            account: _,
-            side: _,
-            lots: _,
-        } = self;
+    // The end of a grant whose lots are given back: with none left, it is let go.
+    pub(crate) fn spend(mut self) {
+        self.lots = 0;
     }
 
     // Puts the lots to rest, as part of an order.

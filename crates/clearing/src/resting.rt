@@ -50,7 +50,7 @@ impl Resting {
         if lots > self.lots {
             return None;
         }
-        *self = Resting::new(self.account, self.side, self.lots - lots);
+        self.lots -= lots;
         Some(Grant::new(self.account, self.side, lots))
     }
 }
