@@ -1,6 +1,6 @@
 -- The firms of a cap: their accounts, their caps, and when one is passed. Assumes nothing.
-use Rattle.std.specs.Prelude.{◌≡◌, ℕ, zero, ◌+◌, ◌-◌, Bool, false, cond, ◌&&◌, List, [], ◌∷◌, ℤ, Some, None, Option, ◌==◌, int_lt, nat_le, nat_lt, slice_index}
-use Rattle.std.specs.List.{insert}
+use Rattle.std.specs.Prelude.{◌≡◌, ℕ, zero, ◌+◌, ◌-◌, Bool, false, cond, ◌&&◌, List, ℤ, Some, None, Option, ◌==◌, int_lt, nat_le, nat_lt, slice_index}
+use Rattle.std.specs.List.{insert, sum_by}
 use Rattle.ordered.specs.Row.{place}
 use Rattle.clearing.specs.Account.{account_fits}
 use Rattle.clearing.specs.Cause.{denied}
@@ -54,8 +54,7 @@ share_of L m f = cond (m.firm == f) (counts_of (L m.account)) zero
 
 -- the counts of all accounts of a firm
 abbrev pub firm_total : Lines → List Member → ℕ → ℕ
-firm_total L [] f = zero
-firm_total L (m ∷ ms) f = share_of L m f + firm_total L ms f
+firm_total L ms f = sum_by (λ m. share_of L m f) ms
 
 -- with n lots more, the firm of the account would pass its cap; an account in no firm passes
 abbrev pub over_at : Lines → List Member → List ℕ → ℕ → Option ℕ → Bool

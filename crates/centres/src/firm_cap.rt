@@ -75,15 +75,13 @@ impl<C: Centre + Drop> FirmCap<C> {
 
     // The counts of all accounts of a firm.
     fn total(&self, firm: u64) -> u128
-        ensures value { result ≡ firm_total (C.Centre.lines self.now.below) self.now.firms.members firm }
-        ensures bound { result < 2 ^ 72 }
+        ensures { result ≡ firm_total (C.Centre.lines self.now.below) self.now.firms.members firm }
     {
-        let members = self.firms.members();
-        let mut sum: u128 = 0;
-        for member in members {
-            sum += self.share(member, firm);
-        }
-        sum
+        self.firms
+            .members()
+            .iter()
+            .map(|member| self.share(member, firm))
+            .sum()
     }
 
     // Whether the account's firm would pass its cap with the new lots.
@@ -91,7 +89,8 @@ impl<C: Centre + Drop> FirmCap<C> {
         ensures { result ≡ over_cap (C.Centre.lines self.now.below) self.now.firms.members self.now.firms.caps account lots }
     {
         self.firms.firm(account).is_some_and(|firm| {
-            let all = self.total(firm) + lots as u128;
+            // A sum that saturates is past any cap too.
+            let all = self.total(firm).saturating_add(lots as u128);
             all > self.firms.cap(firm) as u128
         })
     }
