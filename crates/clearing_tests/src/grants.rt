@@ -40,9 +40,7 @@ fn moves<C: Centre>(
                 Ok(())
             }
         };
-        if let Err(denial) = answer {
-            return Err(Fail::new(format_args!("{case:?}: {denial:?}")));
-        }
+        answer.map_err(|denial| Fail::new(format_args!("{case:?}: {denial:?}")))?;
     }
     Ok(())
 }

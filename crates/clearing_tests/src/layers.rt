@@ -1,6 +1,6 @@
 // The settings of firm caps: which accounts are in which firms, and the firms' caps.
 use crate::layers::Setting::{Cap, Place};
-use crate::scene::{WATCHED, lines, prepaid};
+use crate::scene::{WATCHED, lines, prepaid, watched};
 use crate::steps::Step::Hold;
 use crate::steps::{buy, run};
 use centres::firm_cap::FirmCap;
@@ -23,10 +23,7 @@ enum Setting {
 type Table = (usize, [(Option<u64>, u64); WATCHED]);
 
 fn table(firms: &FirmTable) -> Table {
-    let mut seen = [(None, 0); WATCHED];
-    for (slot, number) in seen.iter_mut().zip(0..WATCHED as i64) {
-        *slot = (firms.firm(number), firms.cap(number.unsigned_abs()));
-    }
+    let seen = watched(|number| (firms.firm(number), firms.cap(number.unsigned_abs())));
     (firms.members().len(), seen)
 }
 

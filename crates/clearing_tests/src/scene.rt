@@ -12,6 +12,7 @@ use clearing::line::{Counts, Line};
 use clearing::resting::Resting;
 use clearing::side::Side;
 use std::alloc::Global;
+use std::array;
 use std::test::Fail;
 
 // The accounts whose lines a test reads as a whole: 0 to 40.
@@ -91,15 +92,20 @@ pub fn line(counts: [u64; 4]) -> Line {
     Line { buy, sell }
 }
 
+// What is seen of each watched account.
+pub fn watched<T>(see: impl Fn(i64) -> T) -> [T; WATCHED] {
+    array::from_fn(|account| see(account as i64))
+}
+
 // The lines of the watched accounts, but for one.
 pub fn others<C: Centre>(centre: &C, left_out: i64) -> [Option<Line>; WATCHED] {
-    let mut seen = [None; WATCHED];
-    for (slot, account) in seen.iter_mut().zip(0..WATCHED as i64) {
-        if account != left_out {
-            *slot = centre.line(account);
+    watched(|account| {
+        if account == left_out {
+            None
+        } else {
+            centre.line(account)
         }
-    }
-    seen
+    })
 }
 
 pub fn lines<C: Centre>(centre: &C) -> [Option<Line>; WATCHED] {
@@ -113,8 +119,7 @@ pub fn reserve<C: Centre>(
     side: Side,
     lots: u64,
 ) -> Result<Resting, Denial> {
-    let grant = centre.reserve(account, side, lots)?;
-    Ok(grant.rest())
+    Ok(centre.reserve(account, side, lots)?.rest())
 }
 
 // Settles lots of a grant for all lots of the order; the grant that is handed back becomes the order.

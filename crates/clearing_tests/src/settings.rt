@@ -1,5 +1,5 @@
 // Margins, and accounts with their deposits and limits.
-use crate::scene::{WATCHED, line, lines, others, position, prepaid};
+use crate::scene::{WATCHED, line, lines, others, position, prepaid, watched};
 use centres::prepaid::Prepaid;
 use clearing::account_centre::AccountCentre;
 use clearing::account_rule::AccountRule;
@@ -14,8 +14,7 @@ const REFUSED: Denial = Denial {
 };
 
 fn margin(asked: u64) -> Result<u64, Denial> {
-    let rule = Prepaid::new(asked)?;
-    Ok(rule.margin())
+    Ok(Prepaid::new(asked)?.margin())
 }
 
 #[test]
@@ -29,11 +28,7 @@ fn a_margin_is_1_to_1_000_000(rt: HostRuntime) {
 }
 
 fn allowances<R: AccountRule + Drop>(centre: &AccountCentre<R>) -> [Option<u64>; WATCHED] {
-    let mut seen = [None; WATCHED];
-    for (slot, account) in seen.iter_mut().zip(0..WATCHED as i64) {
-        *slot = centre.allowance(account);
-    }
-    seen
+    watched(|account| centre.allowance(account))
 }
 
 // The account is added with an empty line, and no other line moves.

@@ -42,9 +42,7 @@ pub fn sell(account: i64, lots: u64) -> Ask {
 
 pub fn run<C: Centre>(rt: &impl Abort, centre: &mut C, steps: &[Step]) -> Result<(), Fail> {
     for step in steps {
-        if let Err(denial) = take(rt, centre, step) {
-            return Err(Fail::new(format_args!("{step:?}: {denial:?}")));
-        }
+        take(rt, centre, step).map_err(|denial| Fail::new(format_args!("{step:?}: {denial:?}")))?;
     }
     Ok(())
 }
