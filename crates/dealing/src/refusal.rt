@@ -90,3 +90,15 @@ impl Refusal {
         }
     }
 }
+
+// The market passes on by `?` what the centre says.
+impl From<Denial> for Refusal {
+    ghost use Rattle.dealing.specs.declared.refusal.Refusal.TheVariants.{CentreDenies};
+    ghost use Rattle.std.specs.Prelude.{◌≡◌};
+
+    ghost from_gives = { λ denial refusal. refusal ≡ CentreDenies denial };
+
+    fn from(denial: Denial) -> Refusal {
+        Refusal::CentreDenies(denial)
+    }
+}

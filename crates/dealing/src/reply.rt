@@ -10,6 +10,12 @@ pub type Reply = Result<Outcome, Refusal>;
 // How many replies own a phrase: refusals 1 to 14 and 18 to 20, and the outcomes.
 pub const OWNERS: usize = 28;
 
+// Their numbers, in the sequence of their phrases.
+const NUMBERS: [u8; OWNERS] = [
+    1, 2, 3, 4, 5, 6, 7, 8, 9, 10, 11, 12, 13, 14, 18, 19, 20, 50, 51, 52, 53, 54, 55, 56, 57, 58,
+    59, 60,
+];
+
 pub fn number(reply: Reply) -> u8
     ensures { result ≡ reply_number reply }
 {
@@ -23,22 +29,13 @@ pub fn number(reply: Reply) -> u8
 pub fn phrase_place(reply: Reply) -> Option<usize>
     ensures { result ≡ place (reply_number reply) }
 {
-    let n = number(reply) as usize;
-    match n {
-        1..=14 => Some(n - 1),
-        18..=20 => Some(n - 4),
-        50..=60 => Some(n - 33),
-        _ => None,
-    }
+    let n = number(reply);
+    NUMBERS.iter().position(|&owner| n == owner)
 }
 
 // The number of the reply that owns the phrase at a place.
 pub fn owner_number(at: usize) -> Option<u8>
     ensures { result ≡ owner at }
 {
-    const NUMBERS: [u8; OWNERS] = [
-        1, 2, 3, 4, 5, 6, 7, 8, 9, 10, 11, 12, 13, 14, 18, 19, 20, 50, 51, 52, 53, 54, 55, 56, 57,
-        58, 59, 60,
-    ];
-    if at < OWNERS { Some(NUMBERS[at]) } else { None }
+    NUMBERS.get(at).copied()
 }

@@ -1,9 +1,11 @@
 -- A phrase and the row that it fills tell each other. Assumes nothing.
-use Rattle.std.proofs.Common.{◌≡◌, ℕ, zero, suc, ◌+◌, ◌-◌, ◌<◌, ◌≤◌, true, false, cond, eqb, List, [], ◌∷◌, ◌++◌, length, get_or, take, drop, replicate, Some, sym, refl, ap, ◌∙◌, subst, ⊎_elim, add-one, arith}
+use Rattle.std.proofs.Common.{◌≡◌, ℕ, zero, suc, ◌+◌, ◌-◌, ◌<◌, ◌≤◌, Bool, true, false, eqb, List, [], ◌∷◌, ◌++◌, length, get_or, take, drop, replicate, Some, None, Option, MatchOption, sym, refl, ap, ◌∙◌, subst, ⊎_elim, arith}
 use Rattle.std.specs.Str.{bytes_eq}
-use Rattle.std.proofs.lemmas.List.{at_drop_more, get_or-map, length-append, length-replicate, take_more}
+use Rattle.std.specs.List.{AllWithin, HoldsAt}
+use Rattle.std.proofs.lemmas.List.{get_or-map, get_or_default, length-append, length-replicate, take_all, take_more}
 use Rattle.std.proofs.lemmas.Bool.{cases_Bool, cond-false, cond-true, eqb-true, ne_eqb}
-use Rattle.page.specs.Phrases.{ends_blank, filled, found_from, kept_before, phrases, trimmed}
+use Rattle.page.specs.Phrases.{AllWide, ends_blank, filled, found_from, kept_before, phrases, trimmed}
+use Rattle.page.proofs.FirstPlace.{first_place, no_place}
 
 -- the blanks after a phrase make up for those that a trim took away, here where nothing but blanks follows b
 kept_blank : (b : ℕ) (bs : List ℕ) → replicate (length bs) 32 ≡ bs → (kept_before b [] ++ replicate (suc (length bs) - length (kept_before b [])) 32 ≡ b ∷ bs) × (length (kept_before b []) ≤ suc (length bs)) × (ends_blank (kept_before b []) ≡ false)
@@ -52,16 +54,21 @@ module _ (rows : List (List ℕ)) (i : ℕ) (within : i < length rows) (wide : l
   pub row_filled : filled (get_or (phrases rows) i []) ≡ get_or rows i []
   row_filled = ap filled (get_or-map trimmed rows i [] [] within) ∙ filled_trimmed _ wide
 
-  found_here : (field : List ℕ) → found_from i field (phrases (drop i rows)) ≡ cond (bytes_eq (get_or rows i []) field) (Some i) (found_from (suc i) field (phrases (drop (i + 1) rows)))
-  found_here field =
-      at_drop_more (λ l. found_from i field (phrases l)) rows i [] within
-      ∙ ap (λ r. cond (bytes_eq r field) (Some i) (found_from (suc i) field (phrases (drop (i + 1) rows)))) (filled_trimmed _ wide)
+module _ (rows : List (List ℕ)) (wide : AllWide rows) (field : List ℕ) where
+  -- a row fills the columns where its phrase does
+  fills : (b : Bool) (k : ℕ) (d : List ℕ) → k < length rows → bytes_eq (get_or rows k d) field ≡ b → bytes_eq (filled (trimmed (get_or rows k d))) field ≡ b
+  fills b k d l e = ap (λ r. bytes_eq r field) (filled_trimmed (get_or rows k d) (ap length (get_or_default rows k d [] l) ∙ wide k l)) ∙ e
 
-  pub found_stop : (field : List ℕ) → bytes_eq (get_or rows i []) field ≡ true → found_from i field (phrases (drop i rows)) ≡ Some i
-  found_stop field t = found_here field ∙ cond-true _ _ _ t
-
-  pub found_step : (field : List ℕ) → bytes_eq (get_or rows i []) field ≡ false → found_from i field (phrases (drop i rows)) ≡ found_from (i + 1) field (phrases (drop (i + 1) rows))
-  found_step field t = found_here field ∙ cond-false _ _ _ t ∙ ap (λ k. found_from k field (phrases (drop (i + 1) rows))) (sym (add-one i))
+  -- the first row that is the columns is the first phrase that fills them
+  pub found_row : (r : Option ℕ) → MatchOption r (AllWithin (λ row. bytes_eq row field ≡ false) rows 0 (length rows)) (λ i. (i < length rows) × HoldsAt (λ row. bytes_eq row field ≡ true) rows i × AllWithin (λ row. bytes_eq row field ≡ false) rows 0 i) → r ≡ found_from 0 field (phrases rows)
+  found_row None fail =
+      sym (no_place (λ row. bytes_eq (filled (trimmed row)) field) (λ k rs. found_from k field (phrases rs)) (λ _. refl) (λ _ _ _. refl) 0 rows (λ k d a b. fills false k d b (fail k d a b)))
+  found_row (Some i) first =
+      let from_start : i ≡ 0 + i = omega arith in
+      ap (λ n. Some n) from_start
+      ∙ sym (first_place (λ row. bytes_eq (filled (trimmed row)) field) (λ k rs. found_from k field (phrases rs)) (λ _. refl) (λ _ _ _. refl) 0 rows i first.0
+      (λ d. fills true i d first.0 (first.1 d))
+      (λ k d a b. fills false k d (omega (arith, first.0)) (first.2 k d a b)))
 
 trimmed_blank : (xs : List ℕ) → trimmed (xs ++ 32 ∷ []) ≡ trimmed xs
 trimmed_blank [] = refl
@@ -72,14 +79,16 @@ trimmed_other [] b n = cond-false _ _ _ (ne_eqb b 32 n)
 trimmed_other (x ∷ []) b n = ap (kept_before x) (trimmed_other [] b n)
 trimmed_other (x ∷ y ∷ ys) b n = ap (kept_before x) (trimmed_other (y ∷ ys) b n)
 
-module _ (row : List ℕ) (end : ℕ) (some : 0 < end) (within : end ≤ length row) where
-  last_taken : take end row ≡ take (end - 1) row ++ get_or row (end - 1) 0 ∷ []
-  last_taken = let back : end ≡ end - 1 + 1 = omega arith in ap (λ n. take n row) back ∙ take_more row (end - 1) 0 (omega arith)
+module _ (xs : List ℕ) (some : 0 < length xs) where
+  last_taken : xs ≡ take (length xs - 1) xs ++ get_or xs (length xs - 1) 0 ∷ []
+  last_taken =
+      let whole : length xs ≡ length xs - 1 + 1 = omega arith in
+      sym (take_all (length xs) xs (omega arith)) ∙ ap (λ n. take n xs) whole ∙ take_more xs (length xs - 1) 0 (omega arith)
 
   -- a blank at the end is no part of the phrase
-  pub trim_step : get_or row (end - 1) 0 ≡ 32 → trimmed (take (end - 1) row) ≡ trimmed (take end row)
-  trim_step e = sym (ap trimmed (last_taken ∙ ap (λ b. take (end - 1) row ++ b ∷ []) e) ∙ trimmed_blank (take (end - 1) row))
+  pub trim_step : get_or xs (length xs - 1) 0 ≡ 32 → trimmed (take (length xs - 1) xs) ≡ trimmed xs
+  trim_step e = sym (ap trimmed (last_taken ∙ ap (λ b. take (length xs - 1) xs ++ b ∷ []) e) ∙ trimmed_blank (take (length xs - 1) xs))
 
   -- another byte is its last
-  pub trim_stop : (get_or row (end - 1) 0 ≡ 32 → ⊥) → trimmed (take end row) ≡ take end row
-  trim_stop n = ap trimmed last_taken ∙ trimmed_other (take (end - 1) row) _ n ∙ sym last_taken
+  pub trim_stop : (get_or xs (length xs - 1) 0 ≡ 32 → ⊥) → trimmed xs ≡ xs
+  trim_stop n = ap trimmed last_taken ∙ trimmed_other (take (length xs - 1) xs) _ n ∙ sym last_taken

@@ -1,4 +1,5 @@
 pub mod Filled
+pub mod FirstPlace
 pub mod Laws
 pub mod Lines
 pub mod OneCall

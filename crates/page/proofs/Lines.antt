@@ -1,9 +1,9 @@
 -- What printing and reading back come to, case by case. Assumes nothing.
-use Rattle.std.proofs.Common.{◌≡◌, ℕ, ◌+◌, ◌<◌, ◌≤◌, Bool, true, false, cond, List, [], ◌∷◌, ◌++◌, length, get_or, take, drop, set, is_err, Some, None, Ok, Err, Option, sym, refl, ap, ◌∙◌, append_assoc, append-nil, arith}
+use Rattle.std.proofs.Common.{◌≡◌, ℕ, zero, suc, ◌+◌, ◌-◌, ◌<◌, ◌≤◌, Bool, true, false, cond, List, [], ◌∷◌, ◌++◌, length, get_or, take, drop, set, is_err, is_some, Some, None, Ok, Err, Option, sym, refl, ap, ◌∙◌, append_assoc, append-nil, arith}
 use borrow.Rule.Slice.PartMut.{put_mid}
 use Rattle.std.specs.Option.{option_map, ok_or}
 use Rattle.std.specs.Str.{bytes_eq}
-use Rattle.std.proofs.lemmas.List.{drop_all, drop_at, drop-drop, drop_more, length-append, length-drop, set_at, take_all, take-append-drop, take_at}
+use Rattle.std.proofs.lemmas.List.{drop_all, drop_at, drop-drop, drop-take, drop_more, length-append, length-drop, set_at, take_all, take-append-drop, take_at}
 use Rattle.std.proofs.lemmas.Slice.{drop-put_mid, take-put_mid}
 use Rattle.std.proofs.lemmas.Bool.{cond-false, cond-true, false≢true, le-ltb, lt-ltb, true≢false}
 use Rattle.clearing.specs.declared.cause.Denial.{Denial}
@@ -15,7 +15,7 @@ use Rattle.page.specs.declared.printed.Column.{Column}
 use Rattle.page.specs.declared.printed.PageLine.{PageLine}
 use Rattle.page.specs.Columns.{across, all_fit, column, numeral, width_of}
 use Rattle.page.specs.Phrases.{filled, found_from}
-use Rattle.page.specs.Printed.{confirmed, denial_at, figures_at, guess, layout, over, placed_line, print_result, printed, read_back, replies, said, same_line}
+use Rattle.page.specs.Printed.{cause_numbered, confirmed, denial_at, figures_at, guess, layout, over, placed_line, print_result, printed, read_back, replies, said, same_line}
 use Rattle.page.proofs.Printing.{column-length}
 
 pub across-length : (cs : List Column) → length (across cs) ≡ width_of cs
@@ -69,6 +69,51 @@ module _ (ps : List (List ℕ)) (bs : List ℕ) where
 
   pub placed_read : (i : ℕ) (t : Bool) → 86 ≤ length bs → found_from 0 (take 40 (drop 46 bs)) ps ≡ Some i → same_line (printed ps (guess bs i)) bs ≡ t → read_back ps bs ≡ cond t (Ok (guess bs i)) (Err NotPrintable)
   placed_read i t h e s = long_read h (Some i) e ∙ ap (λ u. cond u (Ok (guess bs i)) (Err NotPrintable)) s
+
+shorter : (n m : ℕ) (xs : List ℕ) → n ≤ m → take n (take m xs) ≡ take n xs
+shorter zero m xs h = refl
+shorter (suc n) zero xs h = absurd (omega arith)
+shorter (suc n) (suc m) [] h = refl
+shorter (suc n) (suc m) (x ∷ xs) h = ap (λ l. x ∷ l) (shorter n m xs (omega arith))
+
+module _ (bs : List ℕ) where
+  -- what stands in the first 86 bytes stands there in them alone
+  pub part_cut : (k w : ℕ) → k + w ≤ 86 → take w (drop k (take 86 bs)) ≡ take w (drop k bs)
+  part_cut k w h =
+      let n : 86 ≡ k + (86 - k) = omega arith in
+      ap (λ l. take w (drop k (take l bs))) n ∙ ap (take w) (drop-take k (86 - k) bs) ∙ shorter w (86 - k) (drop k bs) (omega arith)
+
+  pub guess_cut : (i : ℕ) → guess (take 86 bs) i ≡ guess bs i
+  guess_cut i = λ j. record {
+    number = numeral 0 (part_cut 0 7 (omega arith) j);
+    reply =
+        get_or
+        (replies
+        (record { number = numeral 0 (part_cut 14 7 (omega arith) j); traded = numeral 0 (part_cut 21 8 (omega arith) j); resting = numeral 0 (part_cut 29 8 (omega arith) j); taken_off = numeral 0 (part_cut 37 8 (omega arith) j) })
+        (record { cause = cause_numbered (numeral 0 (part_cut 10 2 (omega arith) j)); depth = numeral 0 (part_cut 12 2 (omega arith) j) }))
+        i
+        (Ok Opened);
+  }
+
+  pub same_cut : (o : Option (List ℕ)) → same_line o (take 86 bs) ≡ same_line o bs
+  same_cut None = refl
+  same_cut (Some line) = ap (bytes_eq line) (part_cut 0 86 (omega arith))
+
+module _ (ps : List (List ℕ)) (bs cut : List ℕ) (room : 86 ≤ length bs) (is : cut ≡ take 86 bs) where
+  phrase_cut : take 40 (drop 46 bs) ≡ take 40 (drop 46 cut)
+  phrase_cut = sym (ap (λ l. take 40 (drop 46 l)) is ∙ part_cut bs 46 40 (omega arith))
+
+  -- what the first 86 bytes alone read back as
+  pub cut_read : (i : ℕ) (t : Bool) → found_from 0 (take 40 (drop 46 cut)) ps ≡ Some i → same_line (printed ps (guess cut i)) cut ≡ t → read_back ps bs ≡ cond t (Ok (guess cut i)) (Err NotPrintable)
+  cut_read i t found same =
+      let line : guess cut i ≡ guess bs i = ap (λ l. guess l i) is ∙ guess_cut bs i in
+      placed_read ps bs i t room (ap (λ f. found_from 0 f ps) phrase_cut ∙ found)
+      (sym (ap (same_line (printed ps (guess cut i))) is ∙ same_cut bs (printed ps (guess cut i)) ∙ ap (λ l. same_line (printed ps l) bs) line) ∙ same)
+      ∙ ap (λ l. cond t (Ok l) (Err NotPrintable)) (sym line)
+
+  pub lost_read : (o : Option ℕ) → found_from 0 (take 40 (drop 46 cut)) ps ≡ o → false ≡ is_some o → read_back ps bs ≡ Err NotPrintable
+  lost_read None found none = long_read ps bs room None (ap (λ f. found_from 0 f ps) phrase_cut ∙ found)
+  lost_read (Some i) found none = absurd (false≢true none)
 
 -- the parts of a guess make it
 pub guess_is : (bs : List ℕ) (i n : ℕ) (f : Figures) (d : Denial) (r : Reply) → n ≡ numeral 0 (take 7 bs) → f ≡ figures_at bs → d ≡ denial_at bs → r ≡ get_or (replies f d) i (Ok Opened) → record { number = n; reply = r } ≡ guess bs i

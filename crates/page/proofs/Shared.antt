@@ -1,8 +1,9 @@
 -- Phrases that stand twice, and what a text without them gives. Assumes nothing.
-use Rattle.std.proofs.Common.{◌≡◌, ℕ, zero, suc, ◌+◌, ◌-◌, ◌<◌, true, false, List, [], ◌∷◌, ◌++◌, length, get_or, drop, replicate, Some, None, Ok, Err, Option, Result, sym, refl, ap, ◌∙◌, subst, add-one, arith}
+use Rattle.std.proofs.Common.{◌≡◌, ℕ, zero, suc, ◌+◌, ◌-◌, ◌<◌, Bool, true, false, List, [], ◌∷◌, ◌++◌, length, get_or, drop, replicate, Some, None, Ok, Err, Option, Result, sym, refl, ap, ◌∙◌, subst, add-one, arith}
 use Rattle.std.specs.Str.{bytes_eq}
 use Rattle.std.proofs.lemmas.Slice.Eq.{bytes_eq-Decides}
-use Rattle.std.proofs.lemmas.List.{at_drop_more, get_or-map}
+use Rattle.std.specs.List.{AllWithin, HoldsAt}
+use Rattle.std.proofs.lemmas.List.{at_drop_more, drop-map, get_or-drop, get_or-map, get_or_default, length-drop}
 use Rattle.std.proofs.lemmas.Bool.{cond-false, cond-true}
 use Rattle.std.proofs.lemmas.Bool.Decides.{Decides-like, same_from_decides}
 use Rattle.page.specs.declared.table.text.TextFault.{TextFault}
@@ -10,6 +11,7 @@ use Rattle.page.specs.declared.table.text.Flaw.{Flaw}
 use Rattle.page.specs.PhraseText.{all_lines, first_line, flaw_of, judged, lines, or_later, shared_pair, twin, with_line}
 use Rattle.page.specs.Phrases.{AllDifferent, AllWide, Table, phrases, trimmed}
 use Rattle.page.proofs.Filled.{filled_trimmed}
+use Rattle.page.proofs.FirstPlace.{first_place, no_place}
 use Rattle.page.proofs.OneCall.{refused}
 use Rattle.page.proofs.Laws.{ok_same}
 use Rattle.page.proofs.OneLine.{nothing}
@@ -25,13 +27,34 @@ rows_test rows wide i j wi wj =
     (Decides-like _ (λ e. sym (filled_trimmed _ (wide i wi)) ∙ ap (λ p. p ++ replicate (40 - length p) 32) e ∙ filled_trimmed _ (wide j wj)) (ap trimmed) (bytes_eq-Decides (trimmed (get_or rows i [])) (trimmed (get_or rows j []))))
     (bytes_eq-Decides (get_or rows i []) (get_or rows j []))
 
+module _ (rows : List (List ℕ)) (wide : AllWide rows) (i : ℕ) (within : i < length rows) where
+  -- the test of the phrases is the test of the rows
+  later_test : (b : Bool) (j : ℕ) → j < length (drop (i + 1) rows) → ((d : List ℕ) → bytes_eq (get_or rows i []) (get_or (drop (i + 1) rows) j d) ≡ b) → (d : List ℕ) → bytes_eq (get_or (phrases rows) i []) (trimmed (get_or (drop (i + 1) rows) j d)) ≡ b
+  later_test b j l test d =
+      let long = length-drop (i + 1) rows in
+      let at : (d : List ℕ) → get_or (drop (i + 1) rows) j d ≡ get_or rows (i + 1 + j) d = λ d. get_or-drop (i + 1) rows j d in
+      let there : i + 1 + j < length rows = omega arith in
+      let same : get_or (drop (i + 1) rows) j d ≡ get_or (drop (i + 1) rows) j [] = get_or_default (drop (i + 1) rows) j d [] l in
+      ap (λ q. bytes_eq (get_or (phrases rows) i []) (trimmed q)) (same ∙ at [])
+      ∙ ap (bytes_eq (get_or (phrases rows) i [])) (sym (get_or-map trimmed rows (i + 1 + j) [] [] there))
+      ∙ rows_test rows wide i (i + 1 + j) within there
+      ∙ ap (bytes_eq (get_or rows i [])) (sym (at []))
+      ∙ test []
+
+  pub no_twin : AllWithin (λ r. bytes_eq (get_or rows i []) r ≡ false) (drop (i + 1) rows) 0 (length (drop (i + 1) rows)) → twin (i + 1) (get_or (phrases rows) i []) (drop (i + 1) (phrases rows)) ≡ None
+  no_twin none =
+      ap (twin (i + 1) (get_or (phrases rows) i [])) (drop-map trimmed (i + 1) rows)
+      ∙ no_place (λ r. bytes_eq (get_or (phrases rows) i []) (trimmed r)) (λ k rs. twin k (get_or (phrases rows) i []) (phrases rs)) (λ _. refl) (λ _ _ _. refl) (i + 1) (drop (i + 1) rows)
+      (λ j d a b. later_test false j b (λ d. none j d a b) d)
+
+  pub first_twin : (j : ℕ) → j < length (drop (i + 1) rows) → HoldsAt (λ r. bytes_eq (get_or rows i []) r ≡ true) (drop (i + 1) rows) j → AllWithin (λ r. bytes_eq (get_or rows i []) r ≡ false) (drop (i + 1) rows) 0 j → twin (i + 1) (get_or (phrases rows) i []) (drop (i + 1) (phrases rows)) ≡ Some (i + 1 + j)
+  first_twin j l here none =
+      ap (twin (i + 1) (get_or (phrases rows) i [])) (drop-map trimmed (i + 1) rows)
+      ∙ first_place (λ r. bytes_eq (get_or (phrases rows) i []) (trimmed r)) (λ k rs. twin k (get_or (phrases rows) i []) (phrases rs)) (λ _. refl) (λ _ _ _. refl) (i + 1) (drop (i + 1) rows) j l
+      (later_test true j l here)
+      (λ m d a b. later_test false m (omega arith) (λ d. none m d a b) d)
+
 module _ (ps : List (List ℕ)) (k : ℕ) (within : k < length ps) where
-  pub twin_stop : (p : List ℕ) → bytes_eq p (get_or ps k []) ≡ true → twin k p (drop k ps) ≡ Some k
-  twin_stop p t = at_drop_more (twin k p) ps k [] within ∙ cond-true _ _ _ t
-
-  pub twin_step : (p : List ℕ) → bytes_eq p (get_or ps k []) ≡ false → twin (k + 1) p (drop (k + 1) ps) ≡ twin k p (drop k ps)
-  twin_step p t = ap (λ n. twin n p (drop (k + 1) ps)) (add-one k) ∙ sym (at_drop_more (twin k p) ps k [] within ∙ cond-false _ _ _ t)
-
   shared_next : shared_pair k (drop k ps) ≡ or_later k (twin (k + 1) (get_or ps k []) (drop (k + 1) ps)) (shared_pair (k + 1) (drop (k + 1) ps))
   shared_next = at_drop_more (shared_pair k) ps k [] within ∙ ap (λ n. or_later k (twin n (get_or ps k []) (drop (k + 1) ps)) (shared_pair n (drop (k + 1) ps))) (sym (add-one k))
 

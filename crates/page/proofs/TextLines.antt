@@ -7,7 +7,7 @@ use Rattle.page.specs.declared.table.text.Flaw.{Flaw}
 use Rattle.page.specs.declared.table.text.Flaw.TheVariants.{Surplus}
 use Rattle.page.specs.declared.table.text.TextFault.{TextFault}
 use Rattle.page.specs.declared.table.text.TextFault.TheVariants.{Unsound}
-use Rattle.page.specs.PhraseText.{before, first_line, flaw_of, has_low, judged, lines, unended, with_line}
+use Rattle.page.specs.PhraseText.{before, first_line, flaw_of, has_low, judged, line_flaw, lines, unended, with_line}
 use Rattle.page.specs.Phrases.{AllWide, ends_blank, filled, phrases, trimmed}
 use Rattle.page.proofs.Filled.{trimmed_filled}
 use Rattle.page.proofs.OneLine.{nothing}
@@ -63,16 +63,17 @@ lines_next : (n k : ℕ) (bs : List ℕ) → 0 < n → lines n k bs ≡ with_lin
 lines_next zero k bs h = absurd (omega arith)
 lines_next (suc n) k bs h = let e : n ≡ suc n - 1 = omega arith in ap (λ m. with_line (lines m) k bs (first_line bs)) e
 
+-- a flaw of the first line is what is wrong with the text
+flaw_told : (more : ℕ → List ℕ → Result (List (List ℕ)) TextFault) (k : ℕ) (bs : List ℕ) (o : Option (List ℕ × List ℕ)) (f : Flaw) → line_flaw bs o ≡ Some f → with_line more k bs o ≡ Err (Unsound k f)
+flaw_told more k bs None f e = ap (λ o. judged k bs o (Err (Unsound k f))) e
+flaw_told more k bs (Some r) f e = ap (λ o. judged k r.0 o (more (suc k) r.1)) e
+
 module _ (n k : ℕ) (bs : List ℕ) (due : 0 < n) where
-  pub no_line : first_line bs ≡ None → lines n k bs ≡ Err (Unsound k (unended bs))
-  no_line e = lines_next n k bs due ∙ ap (with_line (lines (n - 1)) k bs) e
+  pub flawed_line : (f : Flaw) → line_flaw bs (first_line bs) ≡ Some f → lines n k bs ≡ Err (Unsound k f)
+  flawed_line f e = lines_next n k bs due ∙ flaw_told (lines (n - 1)) k bs (first_line bs) f e
 
-  module _ (p rest : List ℕ) (is : first_line bs ≡ Some (p, rest)) where
-    pub flawed_line : (f : Flaw) → flaw_of p ≡ Some f → lines n k bs ≡ Err (Unsound k f)
-    flawed_line f e = lines_next n k bs due ∙ ap (with_line (lines (n - 1)) k bs) is ∙ ap (λ o. judged k p o (lines (n - 1) (suc k) rest)) e
-
-    pub sound_line : flaw_of p ≡ None → lines n k bs ≡ before p (lines (n - 1) (suc k) rest)
-    sound_line e = lines_next n k bs due ∙ ap (with_line (lines (n - 1)) k bs) is ∙ ap (λ o. judged k p o (lines (n - 1) (suc k) rest)) e
+  pub sound_line : (p rest : List ℕ) → first_line bs ≡ Some (p, rest) → flaw_of p ≡ None → lines n k bs ≡ before p (lines (n - 1) (suc k) rest)
+  sound_line p rest is e = lines_next n k bs due ∙ ap (with_line (lines (n - 1)) k bs) is ∙ ap (λ o. judged k p o (lines (n - 1) (suc k) rest)) e
 
 -- a test that led past an answer failed
 pub unless : {A : Type 0} (t : Bool) (x : A) (o : Option A) → cond t (Some x) o ≡ None → (t ≡ false) × (o ≡ None)

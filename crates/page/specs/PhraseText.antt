@@ -37,6 +37,11 @@ abbrev pub unended : List ℕ → Flaw
 unended [] = Missing
 unended (b ∷ bs) = NotEnded
 
+-- what is wrong with the first line
+abbrev pub line_flaw : List ℕ → Option (List ℕ × List ℕ) → Option Flaw
+line_flaw bs None = Some (unended bs)
+line_flaw bs (Some r) = flaw_of r.0
+
 abbrev pub before : List ℕ → Result (List (List ℕ)) TextFault → Result (List (List ℕ)) TextFault
 before p (Ok ps) = Ok (p ∷ ps)
 before p (Err e) = Err e

@@ -54,20 +54,14 @@ fn rest(b: u8) -> Option<Rest>
 }
 
 // A call that has no letter but its own, where columns 2 to 4 are blank.
-fn alone(head: Head, line: &[u8]) -> Option<Head>
-    requires { length line.now ≡ 37 }
+fn alone(head: Head, line: &[u8; COMMAND_LENGTH]) -> Option<Head>
     ensures { result ≡ where_holds (blank (take 3 (drop 1 line.now))) (Some head) }
 {
-    if is_blank(&line[1..4]) {
-        Some(head)
-    } else {
-        None
-    }
+    is_blank(&line[1..4]).then_some(head)
 }
 
 // The letter in column 1 names the call.
-fn letters(line: &[u8]) -> Option<Head>
-    requires { length line.now ≡ 37 }
+fn letters(line: &[u8; COMMAND_LENGTH]) -> Option<Head>
     ensures { result ≡ head_of line.now }
 {
     match line[0] as char {
@@ -84,12 +78,7 @@ fn letters(line: &[u8]) -> Option<Head>
 fn is_blank(bytes: &[u8]) -> bool
     ensures { result ≡ blank bytes.now }
 {
-    for b in bytes {
-        if *b != b' ' {
-            return false;
-        }
-    }
-    true
+    bytes.iter().all(|&b| b == b' ')
 }
 
 // Digits of which the first is not 0.
@@ -98,7 +87,7 @@ fn magnitude(bytes: &[u8]) -> Option<u64>
     ensures value { result ≡ magnitude bytes.now }
     ensures bound { IfSome result (λ n. n < 10 ^ 11) }
 {
-    if bytes.is_empty() || bytes[0] == b'0' {
+    if let [] | [b'0', ..] = bytes {
         return None;
     }
     let mut n = 0;
@@ -116,18 +105,11 @@ fn written(bytes: &[u8]) -> Option<i64>
     requires { length bytes.now ≤ 11 }
     ensures { result ≡ written bytes.now }
 {
-    if bytes.is_empty() {
-        return None;
+    match bytes {
+        [b'0'] => Some(0),
+        [b'-', digits @ ..] => Some(-(magnitude(digits)? as i64)),
+        _ => Some(magnitude(bytes)? as i64),
     }
-    if bytes[0] == b'0' {
-        return if bytes.len() == 1 { Some(0) } else { None };
-    }
-    if bytes[0] == b'-' {
-        let n = magnitude(&bytes[1..])?;
-        return Some(-(n as i64));
-    }
-    let n = magnitude(bytes)?;
-    Some(n as i64)
 }
 
 // The number in a field, or none where the field is blank or malformed.
@@ -143,16 +125,15 @@ fn unblanked(field: &[u8]) -> &[u8]
     ensures value { result.now ≡ unblanked field.now }
     ensures bound { length result.now ≤ length field.now }
 {
-    let mut at = 0;
-    while at < field.len() && field[at] == b' ' {
-        at += 1;
+    let mut rest = field;
+    while let [b' ', more @ ..] = rest {
+        rest = more;
     }
-    &field[at..]
+    rest
 }
 
 // The call that the letters ask for, with its numbers; none where a field isn't what is due in it.
-fn call(head: Head, line: &[u8]) -> Option<Call>
-    requires { length line.now ≡ 37 }
+fn call(head: Head, line: &[u8; COMMAND_LENGTH]) -> Option<Call>
     ensures { result ≡ call_of head line.now }
 {
     let first = &line[4..15];
@@ -186,16 +167,8 @@ fn call(head: Head, line: &[u8]) -> Option<Call>
             number: number(second)?,
             lots: number(third)?,
         }),
-        Head::Suspend => if is_blank(&line[4..37]) {
-            Some(Call::Suspend)
-        } else {
-            None
-        },
-        Head::Resume => if is_blank(&line[4..37]) {
-            Some(Call::Resume)
-        } else {
-            None
-        },
+        Head::Suspend => is_blank(&line[4..37]).then_some(Call::Suspend),
+        Head::Resume => is_blank(&line[4..37]).then_some(Call::Resume),
     }
 }
 
@@ -204,9 +177,7 @@ pub fn read(line: &[u8]) -> Result<Call, Refusal>
     ensures value { result ≡ read_command line.now }
     ensures one_line_each { OneLineEach }
 {
-    if line.len() != COMMAND_LENGTH {
-        return Err(Refusal::CommandLength);
-    }
+    let line = line.as_array().ok_or(Refusal::CommandLength)?;
     let head = letters(line).ok_or(Refusal::CommandLetter)?;
     call(head, line).ok_or(Refusal::CommandNumber)
 }

@@ -1,10 +1,11 @@
 // Replies printed as lines of a page, and read back from them.
 ghost use Rattle.std.specs.Prelude.{◌≡◌, ◌^◌, ◌<◌, ◌≤◌, true, ◌++◌, length, drop, Ok, slice_index_or};
-ghost use Rattle.page.specs.Columns.{across, all_fit, all_narrow, column, digit_of, width_of};
+ghost use Rattle.page.specs.Columns.{across, all_fit, all_narrow, column, digit_of, leading, width_of};
 ghost use Rattle.page.specs.Columns.{numeral as numeral_in};
 ghost use Rattle.page.specs.Phrases.{phrases};
 ghost use Rattle.page.specs.Printed.{
   cause_numbered,
+  col,
   denial_at,
   figures_at,
   guess,
@@ -41,8 +42,16 @@ pub struct PageLine {
 // A number and the width of the column that it stands in.
 #[derive(Clone, Copy)]
 struct Column {
-    width: usize,
+    width: u32,
     value: u64,
+}
+
+impl Column {
+    fn new(width: u32, value: u64) -> Column
+        ensures { result ≡ col width value }
+    {
+        Column { width, value }
+    }
 }
 
 fn layout(line: &PageLine) -> [Column; 8]
@@ -61,59 +70,34 @@ fn layout(line: &PageLine) -> [Column; 8]
         None => (0, 0),
     };
     [
-        Column {
-            width: 7,
-            value: line.number,
-        },
-        Column {
-            width: 3,
-            value: number(line.reply) as u64,
-        },
-        Column {
-            width: 2,
-            value: cause as u64,
-        },
-        Column {
-            width: 2,
-            value: depth as u64,
-        },
-        Column {
-            width: 7,
-            value: figures.number as u64,
-        },
-        Column {
-            width: 8,
-            value: figures.traded,
-        },
-        Column {
-            width: 8,
-            value: figures.resting,
-        },
-        Column {
-            width: 8,
-            value: figures.taken_off,
-        },
+        Column::new(7, line.number),
+        Column::new(3, u64::from(number(line.reply))),
+        Column::new(2, u64::from(cause)),
+        Column::new(2, u64::from(depth)),
+        Column::new(7, u64::from(figures.number)),
+        Column::new(8, figures.traded),
+        Column::new(8, figures.resting),
+        Column::new(8, figures.taken_off),
     ]
+}
+
+// The digits that stand before others, and blanks before them: none of a number that is used up.
+fn put_leading(field: &mut [u8], n: u64)
+    ensures { field.new ≡ leading (length field.old) n }
+{
+    if let Some((last, before)) = field.split_last_mut() {
+        *last = if n == 0 { b' ' } else { b'0' + (n % 10) as u8 };
+        put_leading(before, n / 10);
+    }
 }
 
 // A number in all the columns of a field.
 fn put_number(field: &mut [u8], n: u64)
     ensures { field.new ≡ column (length field.old) n }
 {
-    if field.is_empty() {
-        return;
-    }
-    let mut at = field.len() - 1;
-    field[at] = b'0' + (n % 10) as u8;
-    let mut left = n / 10;
-    while at > 0 {
-        at -= 1;
-        field[at] = if left == 0 {
-            b' '
-        } else {
-            b'0' + (left % 10) as u8
-        };
-        left /= 10;
+    if let Some((last, before)) = field.split_last_mut() {
+        *last = b'0' + (n % 10) as u8;
+        put_leading(before, n / 10);
     }
 }
 
@@ -121,24 +105,18 @@ fn all_fit(columns: &[Column; 8]) -> bool
     requires { all_narrow columns.now ≡ true }
     ensures { result ≡ all_fit columns.now }
 {
-    for c in columns {
-        if c.value >= 10u64.pow(c.width as u32) {
-            return false;
-        }
-    }
-    true
+    columns.iter().all(|c| c.value < 10u64.pow(c.width))
 }
 
-// The numbers, one column after the other, into the first 45 bytes.
-fn put_columns(columns: &[Column; 8], out: &mut [u8])
-    requires width { width_of columns.now ≡ 45 }
-    requires room { 45 ≤ length out.old }
-    ensures { out.new ≡ across columns.now ++ drop 45 out.old }
+// The numbers, one column after the other.
+fn put_columns(columns: &[Column], out: &mut [u8])
+    requires { width_of columns.now ≤ length out.old }
+    ensures { out.new ≡ across columns.now ++ drop (width_of columns.now) out.old }
 {
-    let mut at = 0;
-    for c in columns {
-        put_number(&mut out[at..at + c.width], c.value);
-        at += c.width;
+    if let [column, more @ ..] = columns {
+        let (field, rest) = out.split_at_mut(column.width as usize);
+        put_number(field, column.value);
+        put_columns(more, rest);
     }
 }
 
@@ -216,8 +194,7 @@ fn reply_at(place: usize, figures: Figures, denial: Denial) -> Reply
     }
 }
 
-fn figures_at(bytes: &[u8]) -> Figures
-    requires { 86 ≤ length bytes.now }
+fn figures_at(bytes: &[u8; LINE]) -> Figures
     ensures { result ≡ figures_at bytes.now }
 {
     Figures {
@@ -228,8 +205,7 @@ fn figures_at(bytes: &[u8]) -> Figures
     }
 }
 
-fn denial_at(bytes: &[u8]) -> Denial
-    requires { 86 ≤ length bytes.now }
+fn denial_at(bytes: &[u8; LINE]) -> Denial
     ensures { result ≡ denial_at bytes.now }
 {
     Denial {
@@ -239,9 +215,8 @@ fn denial_at(bytes: &[u8]) -> Denial
 }
 
 // The only line that these bytes can be, where the phrase at a place is theirs.
-fn guessed(place: usize, bytes: &[u8]) -> PageLine
-    requires place { place < 28 }
-    requires room { 86 ≤ length bytes.now }
+fn guessed(place: usize, bytes: &[u8; LINE]) -> PageLine
+    requires { place < 28 }
     ensures { result ≡ guess bytes.now place }
 {
     let number = numeral(&bytes[0..7]);
@@ -251,6 +226,7 @@ fn guessed(place: usize, bytes: &[u8]) -> PageLine
 
 impl PhraseTable {
     // Prints into the first 86 bytes of `out`, or leaves all of them as they were.
+    #[tactic(auto, using(crate::proofs::Laws::printed_reads_back))]
     pub fn print(&self, line: &PageLine, out: &mut [u8]) -> Result<(), Refusal>
         ensures value { result ≡ said (print_result (phrases self.now.rows) line.now (length out.old)) }
         ensures bytes { out.new ≡ over (print_result (phrases self.now.rows) line.now (length out.old)) out.old }
@@ -272,31 +248,25 @@ impl PhraseTable {
     }
 
     // The line that was printed so, with this table.
+    #[tactic(auto, using(crate::proofs::Laws::read_back_prints))]
     pub fn read_back(&self, bytes: &[u8]) -> Result<PageLine, Refusal>
         ensures value { result ≡ read_back (phrases self.now.rows) bytes.now }
         ensures prints_back { ReadBackPrints }
     {
-        if bytes.len() < LINE {
-            return Err(Refusal::LineTooShort);
-        }
-        let place = self.find(&bytes[46..LINE]).ok_or(Refusal::NotPrintable)?;
+        let bytes: &[u8; LINE] = bytes.first_chunk().ok_or(Refusal::LineTooShort)?;
+        let place = self.find(&bytes[46..]).ok_or(Refusal::NotPrintable)?;
         let line = guessed(place, bytes);
-        if self.prints(&line, bytes) {
-            Ok(line)
-        } else {
-            Err(Refusal::NotPrintable)
+        if !self.prints(&line, bytes) {
+            return Err(Refusal::NotPrintable);
         }
+        Ok(line)
     }
 
-    // Whether printing the line gives the first 86 bytes.
-    fn prints(&self, line: &PageLine, bytes: &[u8]) -> bool
-        requires { 86 ≤ length bytes.now }
+    // Whether printing the line gives these bytes.
+    fn prints(&self, line: &PageLine, bytes: &[u8; LINE]) -> bool
         ensures { result ≡ same_line (printed (phrases self.now.rows) line.now) bytes.now }
     {
         let mut again = [0; LINE];
-        if self.print(line, &mut again).is_err() {
-            return false;
-        }
-        &again[0..LINE] == &bytes[0..LINE]
+        self.print(line, &mut again).is_ok() && again == *bytes
     }
 }

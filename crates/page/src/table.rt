@@ -23,10 +23,9 @@ pub struct PhraseTable {
 
 impl PhraseTable {
     // The columns that a phrase fills on the page.
-    pub(crate) fn row(&self, place: usize) -> &[u8]
+    pub(crate) fn row(&self, place: usize) -> &[u8; WIDTH]
         requires { place < 28 }
-        ensures value { result.now ≡ filled (slice_index_or (phrases self.now.rows) place []) }
-        ensures len { length result.now ≡ 40 }
+        ensures { result.now ≡ filled (slice_index_or (phrases self.now.rows) place []) }
     {
         &self.rows[place]
     }
@@ -36,26 +35,17 @@ impl PhraseTable {
         ensures value { result ≡ found_from 0 columns.now (phrases self.now.rows) }
         ensures bound { IfSome result (λ place. place < 28) }
     {
-        for (place, row) in self.rows.iter().enumerate() {
-            if row.as_slice() == columns {
-                return Some(place);
-            }
-        }
-        None
+        self.rows.iter().position(|row| row.as_slice() == columns)
     }
 
     // The phrase of the reply at a place, without the blanks after it.
     pub fn phrase(&self, place: usize) -> Option<&[u8]>
         ensures { MatchOption result (28 ≤ place) (λ x. (place < 28) × (x.now ≡ slice_index_or (phrases self.now.rows) place [])) }
     {
-        if place >= OWNERS {
-            return None;
+        let mut phrase = self.rows.get(place)?.as_slice();
+        while let [rest @ .., b' '] = phrase {
+            phrase = rest;
         }
-        let row = self.row(place);
-        let mut end = WIDTH;
-        while end > 0 && row[end - 1] == b' ' {
-            end -= 1;
-        }
-        Some(&row[0..end])
+        Some(phrase)
     }
 }

@@ -9,12 +9,7 @@ use std::io::{Read, Write};
 use std::{env, io};
 
 fn wants_help(rt: &HostRuntime) -> io::Result<bool> {
-    for (i, arg) in env::args(rt)?.enumerate() {
-        if i > 0 && arg.as_str() == "--help" {
-            return Ok(true);
-        }
-    }
-    Ok(false)
+    Ok(env::args(rt)?.skip(1).any(|arg| arg.as_str() == "--help"))
 }
 
 fn run(rt: &HostRuntime) -> anyhow::Result<()> {

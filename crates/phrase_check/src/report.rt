@@ -2,7 +2,7 @@
 use dealing::reply::{OWNERS, owner_number};
 use page::english::english;
 use page::table::PhraseTable;
-use page::table::text::{Flaw, TextFault};
+use page::table::text::TextFault;
 use std::io;
 use std::io::Write;
 
@@ -29,24 +29,11 @@ fn entry<W: Write>(out: &mut W, place: usize, table: &PhraseTable) -> io::Result
     out.write_all(b"\n")
 }
 
-fn reason(flaw: Flaw) -> &'static str {
-    match flaw {
-        Flaw::Missing => "is missing",
-        Flaw::NotEnded => "does not end in byte 10",
-        Flaw::Empty => "is empty",
-        Flaw::TooLong => "has over 40 bytes",
-        Flaw::EdgedBySpace => "begins or ends with a space",
-        Flaw::ByteBelow32 => "has a byte below 32",
-        Flaw::Surplus => "is one too many",
-    }
-}
-
 // What is wrong, with the English phrases of the outcomes that it is about.
 fn explain<W: Write>(out: &mut W, fault: TextFault) -> io::Result<()> {
     match fault {
-        TextFault::Unsound { line, flaw } => {
-            let why = reason(flaw);
-            write!(out, "line {line} {why}\n")?;
+        TextFault::Unsound { line, .. } => {
+            write!(out, "{fault}\n")?;
             if line >= 1 && line <= OWNERS {
                 entry(out, line - 1, &english())?;
             }

@@ -1,11 +1,14 @@
 // A table set from a text of 28 lines, or what is wrong with the text.
-ghost use Rattle.std.specs.Prelude.{◌≡◌, ◌+◌, ◌<◌, ◌≤◌, ◌||◌, [], length, take, drop, IfSome, Some, None, Ok, Err, MatchOption, MatchResult, ◌==◌, slice_index, slice_index_or};
-ghost use Rattle.page.specs.PhraseText.{all_lines, first_line, flaw_of, has_low, refusal_of, shared_pair, text_phrases, twin, unended};
+ghost use Rattle.std.specs.Prelude.{◌≡◌, ◌+◌, ◌<◌, ◌≤◌, ◌||◌, [], length, take, drop, IfSome, Some, None, Ok, Err, MatchOption, MatchResult, ◌==◌, slice_index, slice_index_or, unwrap_or};
+ghost use Rattle.dealing.specs.Replies.{owner};
+ghost use Rattle.page.specs.PhraseText.{all_lines, first_line, flaw_of, has_low, line_flaw, refusal_of, shared_pair, text_phrases, twin, unended};
 ghost use Rattle.page.specs.Phrases.{ends_blank, filled, phrases, AllWide};
 
 use super::{PhraseTable, WIDTH};
 use dealing::refusal::Refusal;
-use dealing::reply::OWNERS;
+use dealing::reply::{OWNERS, owner_number};
+use std::error::Error;
+use std::fmt;
 
 // What is wrong with a line of a phrase text.
 #[derive(Clone, Copy, PartialEq, Eq, Debug)]
@@ -22,6 +25,26 @@ pub enum Flaw {
     ByteBelow32,
     // Nothing is due here: the 28 lines are over.
     Surplus,
+}
+
+// What a line of that text is told to be.
+impl fmt::Display for Flaw {
+    ghost use Rattle.page.specs.Messages.{flaw_text};
+    ghost use Rattle.std.specs.Prelude.{Some};
+
+    ghost output = { λ flaw. Some (flaw_text flaw) };
+
+    fn fmt<W: fmt::Write>(&self, f: &mut fmt::Formatter<W>) -> fmt::Result {
+        f.write_str(match self {
+            Flaw::Missing => "is missing",
+            Flaw::NotEnded => "does not end in byte 10",
+            Flaw::Empty => "is empty",
+            Flaw::TooLong => "has over 40 bytes",
+            Flaw::EdgedBySpace => "begins or ends with a space",
+            Flaw::ByteBelow32 => "has a byte below 32",
+            Flaw::Surplus => "is one too many",
+        })
+    }
 }
 
 // Why a phrase text sets no table.
@@ -44,66 +67,93 @@ impl TextFault {
     }
 }
 
+// The number that owns the phrase at a place, or 0 where no place is.
+fn owner_at(place: usize) -> u8
+    ensures { result ≡ unwrap_or (owner place) 0 }
+{
+    owner_number(place).unwrap_or(0)
+}
+
+// The places of a shared phrase are told by the numbers of their owners.
+impl fmt::Display for TextFault {
+    ghost use Rattle.page.specs.Messages.{fault_text};
+    ghost use Rattle.std.specs.Prelude.{Some};
+
+    ghost output = { λ fault. Some (fault_text fault) };
+
+    fn fmt<W: fmt::Write>(&self, f: &mut fmt::Formatter<W>) -> fmt::Result {
+        match *self {
+            TextFault::Unsound { line, flaw } => write!(f, "line {line} {flaw}"),
+            TextFault::Shared { first, second } => {
+                let one = owner_at(first);
+                let other = owner_at(second);
+                write!(f, "outcomes {one} and {other} share one phrase")
+            }
+        }
+    }
+}
+
+impl Error for TextFault {}
+
 fn has_low(phrase: &[u8]) -> bool
     ensures { result ≡ has_low phrase.now }
 {
-    for b in phrase {
-        if *b < 32 {
-            return true;
-        }
-    }
-    false
+    phrase.iter().any(|&b| b < 32)
 }
 
-// A phrase ends in a blank where its last byte is one.
-fn edged(phrase: &[u8]) -> bool
-    requires { 0 < length phrase.now }
+#[tactic(auto, using(crate::proofs::TextLines::ends_blank_last))]
+fn is_edged(phrase: &[u8]) -> bool
     ensures { result ≡ (slice_index phrase.now 0 == 32 || ends_blank phrase.now) }
 {
-    phrase[0] == b' ' || phrase[phrase.len() - 1] == b' '
+    matches!(phrase, [b' ', ..] | [.., b' '])
 }
 
-fn judge(phrase: &[u8]) -> Option<Flaw>
-    ensures { result ≡ flaw_of phrase.now }
+fn judge(phrase: &[u8]) -> Result<(), Flaw>
+    ensures { MatchResult result (λ _. flaw_of phrase.now ≡ None) (λ flaw. flaw_of phrase.now ≡ Some flaw) }
 {
     if phrase.is_empty() {
-        return Some(Flaw::Empty);
+        return Err(Flaw::Empty);
     }
     if phrase.len() > WIDTH {
-        return Some(Flaw::TooLong);
+        return Err(Flaw::TooLong);
     }
-    if edged(phrase) {
-        return Some(Flaw::EdgedBySpace);
+    if is_edged(phrase) {
+        return Err(Flaw::EdgedBySpace);
     }
     if has_low(phrase) {
-        Some(Flaw::ByteBelow32)
-    } else {
-        None
+        return Err(Flaw::ByteBelow32);
     }
-}
-
-// Where the first line ends.
-fn line_end(text: &[u8]) -> Option<usize>
-    ensures value { MatchOption result (first_line text.now ≡ None) (λ end. first_line text.now ≡ Some (take end text.now, drop (end + 1) text.now)) }
-    ensures bound { IfSome result (λ end. end < length text.now) }
-{
-    for (i, b) in text.iter().enumerate() {
-        if *b == b'\n' {
-            return Some(i);
-        }
-    }
-    None
+    Ok(())
 }
 
 // What is wrong where no line ends.
-fn unended(rest: &[u8]) -> Flaw
-    ensures { result ≡ unended rest.now }
+fn unended(text: &[u8]) -> Flaw
+    ensures { result ≡ unended text.now }
 {
-    if rest.is_empty() {
+    if text.is_empty() {
         Flaw::Missing
     } else {
         Flaw::NotEnded
     }
+}
+
+// The first line without its end, and the text after it.
+fn first_line(text: &[u8]) -> Result<(&[u8], &[u8]), Flaw>
+    ensures { MatchResult result (λ r. first_line text.now ≡ Some (r.0.now, r.1.now)) (λ flaw. (first_line text.now ≡ None) × (flaw ≡ unended text.now)) }
+{
+    match text.iter().position(|&b| b == b'\n') {
+        Some(end) => Ok((&text[..end], &text[end + 1..])),
+        None => Err(unended(text)),
+    }
+}
+
+// The phrase on the first line, and the text after it.
+fn first_phrase(text: &[u8]) -> Result<(&[u8], &[u8]), Flaw>
+    ensures { MatchResult result (λ r. (first_line text.now ≡ Some (r.0.now, r.1.now)) × (flaw_of r.0.now ≡ None)) (λ flaw. line_flaw text.now (first_line text.now) ≡ Some flaw) }
+{
+    let (phrase, rest) = first_line(text)?;
+    judge(phrase)?;
+    Ok((phrase, rest))
 }
 
 fn field(phrase: &[u8]) -> [u8; WIDTH]
@@ -111,7 +161,7 @@ fn field(phrase: &[u8]) -> [u8; WIDTH]
     ensures { result ≡ filled phrase.now }
 {
     let mut row = [b' '; WIDTH];
-    row[0..phrase.len()].copy_from_slice(phrase);
+    row[..phrase.len()].copy_from_slice(phrase);
     row
 }
 
@@ -121,19 +171,17 @@ fn rows_of(text: &[u8]) -> Result<[[u8; WIDTH]; OWNERS], TextFault>
 {
     let mut rows = [[b' '; WIDTH]; OWNERS];
     let mut rest = text;
-    for place in 0..OWNERS {
-        let line = place + 1;
-        let Some(end) = line_end(rest) else {
-            return Err(TextFault::Unsound {
-                line,
-                flaw: unended(rest),
-            });
-        };
-        if let Some(flaw) = judge(&rest[0..end]) {
-            return Err(TextFault::Unsound { line, flaw });
+    for (place, row) in rows.iter_mut().enumerate() {
+        match first_phrase(rest) {
+            Ok((phrase, more)) => {
+                *row = field(phrase);
+                rest = more;
+            }
+            Err(flaw) => return Err(TextFault::Unsound {
+                line: place + 1,
+                flaw,
+            }),
         }
-        rows[place] = field(&rest[0..end]);
-        rest = &rest[end + 1..];
     }
     if rest.is_empty() {
         Ok(rows)
@@ -151,12 +199,9 @@ fn twin_of(rows: &[[u8; WIDTH]; OWNERS], place: usize) -> Option<usize>
     requires within { place < 28 }
     ensures { result ≡ twin (place + 1) (slice_index_or (phrases rows.now) place []) (drop (place + 1) (phrases rows.now)) }
 {
-    for other in place + 1..OWNERS {
-        if rows[place] == rows[other] {
-            return Some(other);
-        }
-    }
-    None
+    let later = place + 1;
+    let gap = rows[later..].iter().position(|row| rows[place] == *row)?;
+    Some(later + gap)
 }
 
 // Two places with one row: the smallest first, then the smallest second.

@@ -1,12 +1,11 @@
-use Rattle.std.proofs.Common.{rules}
 use Rattle.page.proofs.OneCall.{one_line_each}
 use Rattle.page.proofs.command.read.Goals as goal
 
-pub returns-then-line-ne-COMMAND_LENGTH : goal.returns-then-line-ne-COMMAND_LENGTH
-returns-then-line-ne-COMMAND_LENGTH c = record { value = search rules; one_line_each = one_line_each }
+pub returns-in_err-line-clause-one_line_each : goal.returns-in_err-line-clause-one_line_each
+returns-in_err-line-clause-one_line_each c = one_line_each
 
-pub returns-in_err-head : goal.returns-in_err-head
-returns-in_err-head c = record { value = search rules; one_line_each = one_line_each }
+pub returns-in_err-head-clause-one_line_each : goal.returns-in_err-head-clause-one_line_each
+returns-in_err-head-clause-one_line_each c = one_line_each
 
-pub returns : goal.returns
-returns c = record { value = search rules; one_line_each = one_line_each }
+pub returns-clause-one_line_each : goal.returns-clause-one_line_each
+returns-clause-one_line_each c = one_line_each

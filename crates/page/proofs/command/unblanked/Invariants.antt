@@ -1,10 +1,10 @@
 -- Nothing but blanks was passed.
-use Rattle.std.proofs.Common.{◌≡◌, ◌-◌, ◌≤◌, length, drop}
+use Rattle.std.proofs.Common.{◌≡◌, ◌≤◌, length}
 use Rattle.page.specs.Bytes.{unblanked}
 use Rattle.page.proofs.command.unblanked.Given as goal
 
-abbrev pub invariant-loop-at : goal.invariant-loop-at
-invariant-loop-at l = (unblanked (drop l.at l.field) ≡ unblanked l.field) × (l.at ≤ length l.field)
+abbrev pub invariant-loop-rest : goal.invariant-loop-rest
+invariant-loop-rest l = (unblanked l.rest ≡ unblanked l.field) × (length l.rest ≤ length l.field)
 
-abbrev pub decreases-loop-at : goal.decreases-loop-at
-decreases-loop-at l = length l.field - l.at
+abbrev pub decreases-loop-rest : goal.decreases-loop-rest
+decreases-loop-rest l = length l.rest

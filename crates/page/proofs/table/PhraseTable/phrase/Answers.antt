@@ -1,32 +1,22 @@
-use Rattle.std.proofs.Common.{◌≡◌, ℕ, ◌-◌, List, take, sym, ap, ◌∙◌, arith}
-use Rattle.std.proofs.lemmas.List.{take_all}
+use Rattle.std.proofs.Common.{◌≡◌, [], sym, ap, ◌∙◌, arith, rules}
+use Rattle.std.proofs.lemmas.List.{get_or-map, length-map, nil_from_length}
 use Rattle.page.specs.Phrases.{trimmed}
-use Rattle.page.proofs.Filled.{trim_step, trim_stop, trimmed_filled}
+use Rattle.page.proofs.Filled.{trim_step, trim_stop}
 use Rattle.page.proofs.table.PhraseTable.phrase.Goals as goal
-use Rattle.page.proofs.table.PhraseTable.phrase.Goals.{else-loop-end-test, then-loop-end-test+else-row-end-eq32}
+use Rattle.page.proofs.table.PhraseTable.phrase.Goals.{in_default, in_default-2}
 
-pub loop-end-init : goal.loop-end-init
-loop-end-init c = (ap trimmed (take_all 40 c.row-row.result.now (omega (arith, c.row-row.ensures.len))), omega arith)
-
-pub loop-end-preserved : goal.loop-end-preserved
-loop-end-preserved c =
-    (trim_step c.row-row.result.now c.loop-end.end c.loop-end-test.true (omega (arith, c.row-row.ensures.len)) c.if-row-end-eq32.true ∙ c.loop-end.invariant.0, omega arith)
-
-none-taken : (row : List ℕ) (end : ℕ) → end ≡ 0 → take end row ≡ trimmed (take end row)
-none-taken row end e = ap (λ n. take n row) e ∙ ap (λ n. trimmed (take n row)) (sym e)
+pub loop-phrase-preserved : goal.loop-phrase-preserved
+loop-phrase-preserved c = trim_step c.loop-phrase.phrase.now c.in-32.len_at_least (search rules) ∙ c.loop-phrase.invariant
 
 pub returns : goal.returns
 returns c =
-    let row = c.row-row.result.now in
-    let end = c.loop-end.end in
     let table = c.args.self.now in
-    let there = table.count in
-    let whole : end - 0 ≡ end = omega arith in
-    let taken : take end row ≡ trimmed (take end row) =
-    elim c.loop-end-test.branch [
-      | then-loop-end-test+else-row-end-eq32 w ↦ sym (trim_stop row end w.loop-end-test.true (omega (arith, c.row-row.ensures.len)) w.if-row-end-eq32.false)
-      | else-loop-end-test w ↦ none-taken row end (omega (arith, w.loop-end-test.false))
-    ] in (
-      c.if-place-ge-OWNERS.false,
-      ap (λ n. take n row) whole ∙ taken ∙ c.loop-end.invariant.0 ∙ ap trimmed c.row-row.ensures.value ∙ trimmed_filled _ _ (table.ended c.args.place (omega arith)),
-    )
+    let there = sym (length-map table.rows trimmed) ∙ table.count in
+    let phrase = c.loop-phrase.phrase.now in
+    let row = c.in_ok-get.ensures.lookup.3 in
+    let whole : trimmed phrase ≡ phrase =
+    elim c.if-phrase-lt1.branch [
+      | in_default w ↦ let none = nil_from_length phrase (omega arith) in ap trimmed none ∙ sym none
+      | in_default-2 w ↦ trim_stop phrase w.in_default.len_at_least (search rules)
+    ] in
+    (omega (arith, row.0), sym whole ∙ c.loop-phrase.invariant ∙ ap trimmed (c.as_slice-phrase.ensures ∙ row.1 []) ∙ sym (get_or-map trimmed table.rows c.args.place [] [] row.0))

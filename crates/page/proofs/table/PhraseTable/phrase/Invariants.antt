@@ -1,10 +1,10 @@
--- Nothing but blanks stands past the end.
-use Rattle.std.proofs.Common.{◌≡◌, ◌≤◌, take}
+-- Nothing but blanks was left out.
+use Rattle.std.proofs.Common.{◌≡◌, length}
 use Rattle.page.specs.Phrases.{trimmed}
 use Rattle.page.proofs.table.PhraseTable.phrase.Given as goal
 
-abbrev pub invariant-loop-end : goal.invariant-loop-end
-invariant-loop-end l = (trimmed (take l.end l.row) ≡ trimmed l.row) × (l.end ≤ 40)
+abbrev pub invariant-loop-phrase : goal.invariant-loop-phrase
+invariant-loop-phrase l = trimmed l.phrase ≡ trimmed l.initial.phrase
 
-abbrev pub decreases-loop-end : goal.decreases-loop-end
-decreases-loop-end l = l.end
+abbrev pub decreases-loop-phrase : goal.decreases-loop-phrase
+decreases-loop-phrase l = length l.phrase

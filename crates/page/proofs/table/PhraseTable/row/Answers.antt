@@ -9,4 +9,4 @@ returns c =
     let t = c.args.self.now in
     let there = sym (length-map t.rows trimmed) ∙ t.count in
     let wide = t.wide c.args.place (omega arith) in
-    record { value = sym (row_filled t.rows c.args.place (omega arith) wide); len = wide }
+    sym (row_filled t.rows c.args.place (omega arith) wide)

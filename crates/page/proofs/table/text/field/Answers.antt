@@ -5,5 +5,5 @@ use Rattle.page.proofs.table.text.field.Goals as goal
 pub returns : goal.returns
 returns c =
     let phrase = c.args.phrase.now in
-    (λ i. c.copy_from_slice.ensures.after i ++ drop (length phrase - 0) (replicate 40 32))
-    ∙ ap (λ l. phrase ++ l) (drop-replicate (length phrase - 0) 40 32 ∙ ap (λ (n : ℕ). replicate n 32) (omega arith))
+    (λ i. c.copy_from_slice.ensures.after i ++ drop (length phrase) (replicate 40 32))
+    ∙ ap (λ l. phrase ++ l) (drop-replicate (length phrase) 40 32 ∙ ap (λ (n : ℕ). replicate n 32) (omega arith))

@@ -1,14 +1,13 @@
-use Rattle.std.proofs.Common.{sym, ◌∙◌}
-use Rattle.std.proofs.lemmas.List.{at_drop_all}
+use Rattle.std.proofs.Common.{ltb, ◌||◌, refl, ◌∙◌, rules, tests}
+use Rattle.std.specs.List.{list_any}
+use Rattle.std.proofs.lemmas.Iterator.{YieldsList-from_slice}
+use Rattle.std.proofs.lemmas.Iterator.Search.{any_from_yields_List}
+use Rattle.std.proofs.lemmas.List.Recursion.{same_from_clauses}
 use Rattle.page.specs.PhraseText.{has_low}
-use Rattle.page.proofs.TextLines.{low_step, low_stop}
 use Rattle.page.proofs.table.text.has_low.Goals as goal
 
-pub returns-then-b-lt32 : goal.returns-then-b-lt32
-returns-then-b-lt32 c = sym (low_stop _ _ c.loop-b-test.true c.if-b-lt32.true) ∙ c.loop-b.invariant
-
-pub loop-b-preserved : goal.loop-b-preserved
-loop-b-preserved c = low_step _ _ c.loop-b-test.true c.if-b-lt32.false ∙ c.loop-b.invariant
-
 pub returns : goal.returns
-returns c = sym (at_drop_all has_low _ _ c.loop-b-test.false) ∙ c.loop-b.invariant
+returns c =
+    let phrase = c.args.phrase.now in
+    any_from_yields_List (λ b. ltb b 32) _ _ _ c.any.ensures.ran (YieldsList-from_slice phrase cc) (λ x b q k. search (rules, tests))
+    ∙ same_from_clauses (list_any (λ b. ltb b 32)) has_low (λ b low. ltb b 32 || low) refl (λ _ _. refl) (λ _ _. refl) phrase

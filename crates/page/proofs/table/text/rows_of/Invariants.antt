@@ -6,4 +6,4 @@ use Rattle.page.proofs.TextLines.{prepended}
 use Rattle.page.proofs.table.text.rows_of.Given as goal
 
 abbrev pub invariant-loop-place : goal.invariant-loop-place
-invariant-loop-place l = (all_lines l.text ≡ prepended (phrases (take l.place l.rows)) (lines (28 - l.place) (l.place + 1) l.rest)) × AllWide l.rows × (length l.rows ≡ 28)
+invariant-loop-place l = (all_lines l.text ≡ prepended (phrases (take l.place l.row-items)) (lines (28 - l.place) (l.place + 1) l.rest)) × AllWide l.row-items × (length l.row-items ≡ 28)

@@ -1,26 +1,20 @@
-use Rattle.std.proofs.Common.{sym, ◌∙◌, arith}
-use Rattle.std.proofs.lemmas.List.{at_drop_all, length-map}
-use Rattle.page.specs.PhraseText.{twin}
-use Rattle.page.specs.Phrases.{phrases, trimmed}
-use Rattle.page.proofs.Shared.{rows_test, twin_step, twin_stop}
+use Rattle.std.proofs.Common.{◌≡◌, ◌+◌, true, false, ◌-◌, [], get_or, take, drop, sym, ap, ◌∙◌, arith, rules, tests}
+use Rattle.std.specs.Str.{bytes_eq}
+use Rattle.std.proofs.lemmas.Iterator.{IsFirst-from_position, YieldsList-from_slice}
+use Rattle.std.proofs.lemmas.List.{take_rest}
+use Rattle.page.proofs.Shared.{first_twin, no_twin}
 use Rattle.page.proofs.table.text.twin_of.Goals as goal
 
-pub returns-then-eq : goal.returns-then-eq
-returns-then-eq c =
+pub returns-in_err-gap : goal.returns-in_err-gap
+returns-in_err-gap c =
     let rows = c.args.rows.now in
-    let long = length-map rows trimmed in
-    let test = rows_test rows c.requires.wide c.args.place c.loop-other.other (omega (arith, c.told-rows)) (omega (arith, c.told-rows)) in
-    sym (twin_stop (phrases rows) c.loop-other.other (omega (arith, c.told-rows)) _ (test ∙ sym c.eq.ensures ∙ c.if-eq.true)) ∙ c.loop-other.invariant
-
-pub loop-other-preserved : goal.loop-other-preserved
-loop-other-preserved c =
-    let rows = c.args.rows.now in
-    let long = length-map rows trimmed in
-    let test = rows_test rows c.requires.wide c.args.place c.loop-other.other (omega (arith, c.told-rows)) (omega (arith, c.told-rows)) in
-    twin_step (phrases rows) c.loop-other.other (omega (arith, c.told-rows)) _ (test ∙ sym c.eq.ensures ∙ c.if-eq.false) ∙ c.loop-other.invariant
+    let place = c.args.place in
+    let none = IsFirst-from_position _ _ _ (λ r. bytes_eq (get_or rows place []) r ≡ true) (λ r. bytes_eq (get_or rows place []) r ≡ false) c.in_err-gap.ensures.ran (YieldsList-from_slice (drop (place + 1) rows) (c.iter.ensures.rest ∙ ap (λ n. take (n - (place + 1)) (drop (place + 1) rows)) (sym c.told-rows) ∙ take_rest rows (place + 1))) (λ x q k. search (rules, tests)) (λ x q k. search (rules, tests)) in
+    c.from_residual.ensures ∙ sym (no_twin rows c.requires.wide place (omega arith) none)
 
 pub returns : goal.returns
 returns c =
     let rows = c.args.rows.now in
-    let long = length-map rows trimmed in
-    sym (at_drop_all (twin c.loop-other.other _) (phrases rows) c.loop-other.other (omega (arith, c.told-rows))) ∙ c.loop-other.invariant
+    let place = c.args.place in
+    let first = IsFirst-from_position _ _ _ (λ r. bytes_eq (get_or rows place []) r ≡ true) (λ r. bytes_eq (get_or rows place []) r ≡ false) c.in_ok-gap.ensures.ran (YieldsList-from_slice (drop (place + 1) rows) (c.iter.ensures.rest ∙ ap (λ n. take (n - (place + 1)) (drop (place + 1) rows)) (sym c.told-rows) ∙ take_rest rows (place + 1))) (λ x q k. search (rules, tests)) (λ x q k. search (rules, tests)) in
+    sym (first_twin rows c.requires.wide place (omega arith) c.in_ok-gap.gap first.0 first.1 first.2)
