@@ -7,7 +7,6 @@ use crate::ending::Ending;
 use crate::order::Order;
 use crate::rule::QueueRule;
 use crate::taker::Taker;
-use ordered::same;
 
 // What the walk of an entry would come to.
 #[derive(Clone, Copy)]
@@ -39,10 +38,10 @@ fn judge<R: QueueRule>(rule: &R, taker: &Taker, left: u64, order: &Order) -> Rea
     if !taker.eligible(rule, order) {
         return Reach::Stopped(Ending::Short);
     }
-    if same(order.resting.account(), taker.entry.account) {
+    if order.account() == taker.entry.account {
         return Reach::Stopped(Ending::Own);
     }
-    if order.resting.lots() <= left {
+    if order.lots() <= left {
         Reach::UsedUp
     } else {
         Reach::Partly
@@ -58,7 +57,7 @@ pub(crate) fn plan_walk<R: QueueRule>(rule: &R, taker: &Taker, lots: u64, queue:
     let mut left = lots;
     for (i, order) in queue.iter().enumerate() {
         match judge(rule, taker, left, order) {
-            Reach::UsedUp => left -= order.resting.lots(),
+            Reach::UsedUp => left -= order.lots(),
             Reach::Partly => {
                 return Plan {
                     ending: Ending::Filled,

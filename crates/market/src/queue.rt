@@ -7,8 +7,8 @@ ghost use Rattle.ordered.specs.Row.{Found};
 use crate::order::Order;
 use crate::rule::QueueRule;
 use crate::standing::ByRule;
+use ordered::find;
 use ordered::kept::add;
-use ordered::{find, same};
 use std::alloc::{AllocError, Global};
 
 mod lowering;
@@ -72,7 +72,7 @@ fn lots_of(orders: &[Order], account: i64) -> u128
 {
     let mut lots: u128 = 0;
     for order in orders {
-        if same(order.account(), account) {
+        if order.account() == account {
             lots += u128::from(order.lots());
         }
     }

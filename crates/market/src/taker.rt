@@ -20,17 +20,6 @@ pub struct Taker {
     pub(crate) first: Option<i64>,
 }
 
-// What a queue rule sees of an order.
-fn quote_of(order: &Order) -> Quote
-    ensures { result ≡ quote_of order.now }
-{
-    Quote {
-        side: order.resting.side(),
-        price: order.price,
-        number: order.number,
-    }
-}
-
 impl Taker {
     fn quote(&self) -> Quote
         ensures { result ≡ entry_quote self.now.entry self.now.number }
@@ -46,7 +35,7 @@ impl Taker {
         ensures { result ≡ meets_across (rule_of (R.QueueRule.stands rule.now) (R.QueueRule.meets rule.now)) self.now.entry.side (entry_quote self.now.entry self.now.number) (quote_of order.now) }
     {
         let mine = self.quote();
-        let theirs = quote_of(order);
+        let theirs = order.quote();
         match self.entry.side {
             Side::Buy => rule.meet(mine, theirs),
             Side::Sell => rule.meet(theirs, mine),
