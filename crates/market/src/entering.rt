@@ -7,7 +7,6 @@ ghost use Rattle.market.specs.BookState.{Judged, entry_outcome, state_of};
 ghost use Rattle.market.specs.Calls.{done, enter as enter-result, entered, entry_lots, rest_joins, walk_of};
 ghost use Rattle.market.specs.Carry.{EnteredBook, Planned};
 ghost use Rattle.market.specs.Order.{joined, order_of};
-ghost use Rattle.market.specs.Rule.{rule_of};
 ghost use Rattle.market.specs.State.{is_trading};
 
 use crate::book::Book;
@@ -41,7 +40,7 @@ fn leave_rest<R: QueueRule, C: Centre>(
     requires account { rest.account ≡ entry.now.account }
     requires side { rest.side ≡ entry.now.side }
     requires held { holds (C.Centre.lines centre.old entry.now.account) entry.now.side rest.lots ≡ true }
-    ensures queue { mine.new.orders.items ≡ (if rest_joins entry.now ending then joined (rule_of (R.QueueRule.stands rule.now.rule) (R.QueueRule.meets rule.now.rule)) (order_of entry.now.account entry.now.side number entry.now.price rest.lots) mine.old.orders.items else mine.old.orders.items) }
+    ensures queue { mine.new.orders.items ≡ (if rest_joins entry.now ending then joined (R.QueueRule.rule rule.now.rule) (order_of entry.now.account entry.now.side number entry.now.price rest.lots) mine.old.orders.items else mine.old.orders.items) }
     ensures lines { C.Centre.lines centre.new ≡ (if rest_joins entry.now ending then C.Centre.lines centre.old else adjusted (C.Centre.lines centre.old) entry.now.account (release entry.now.side rest.lots)) }
     ensures settings { C.Centre.own centre.new ≡ C.Centre.own centre.old }
     ensures layers { C.Centre.depth centre.new ≡ C.Centre.depth centre.old }
@@ -73,7 +72,7 @@ fn carry<R: QueueRule, C: Centre>(
     requires planned { Planned (adjusted (C.Centre.lines centre.old) entry.now.account (hold entry.now.side (entry_lots entry.now))) theirs.old.orders.items entry.now number (entry_lots entry.now) plan.trades }
     requires register { length register.old.trades.items + plan.trades ≤ 512 }
     requires queue { rest_joins entry.now plan.ending ≡ true → length mine.old.orders.items < 64 }
-    ensures entered { EnteredBook (rule_of (R.QueueRule.stands rule.now.rule) (R.QueueRule.meets rule.now.rule)) entry.now number plan (C.Centre.lines centre.old) mine.old.orders.items theirs.old.orders.items register.old.trades.items (C.Centre.lines centre.new) mine.new.orders.items theirs.new.orders.items register.new.trades.items }
+    ensures entered { EnteredBook (R.QueueRule.rule rule.now.rule) entry.now number plan (C.Centre.lines centre.old) mine.old.orders.items theirs.old.orders.items register.old.trades.items (C.Centre.lines centre.new) mine.new.orders.items theirs.new.orders.items register.new.trades.items }
     ensures settings { C.Centre.own centre.new ≡ C.Centre.own centre.old }
     ensures layers { C.Centre.depth centre.new ≡ C.Centre.depth centre.old }
 {
@@ -122,8 +121,8 @@ fn outcome(entry: &Entry, number: u32, plan: Plan) -> Outcome
 impl<R: QueueRule> Book<R> {
     // Carries out an entry whose walk was planned.
     fn carry_out<C: Centre>(&mut self, centre: &mut C, entry: &Entry, plan: Plan) -> Outcome
-        requires { Judged (rule_of (R.QueueRule.stands self.old.rule.rule) (R.QueueRule.meets self.old.rule.rule)) (C.Centre.own centre.old) (state_of self.old) (C.Centre.lines centre.old) entry.now (Accepted plan) }
-        ensures answered { entered (rule_of (R.QueueRule.stands self.old.rule.rule) (R.QueueRule.meets self.old.rule.rule)) (state_of self.old) (C.Centre.lines centre.old) entry.now (walk_of (rule_of (R.QueueRule.stands self.old.rule.rule) (R.QueueRule.meets self.old.rule.rule)) (state_of self.old) entry.now) ≡ done (state_of self.new) (C.Centre.lines centre.new) (Accepted result) }
+        requires { Judged (R.QueueRule.rule self.old.rule.rule) (C.Centre.own centre.old) (state_of self.old) (C.Centre.lines centre.old) entry.now (Accepted plan) }
+        ensures answered { entered (R.QueueRule.rule self.old.rule.rule) (state_of self.old) (C.Centre.lines centre.old) entry.now (walk_of (R.QueueRule.rule self.old.rule.rule) (state_of self.old) entry.now) ≡ done (state_of self.new) (C.Centre.lines centre.new) (Accepted result) }
         ensures rule { self.new.rule ≡ self.old.rule }
         ensures settings { C.Centre.own centre.new ≡ C.Centre.own centre.old }
         ensures layers { C.Centre.depth centre.new ≡ C.Centre.depth centre.old }
@@ -158,7 +157,7 @@ impl<R: QueueRule> Book<R> {
     // Enters an order: it is judged, and then carried out.
     pub(crate) fn enter<C: Centre>(&mut self, centre: &mut C, entry: Entry) -> Reply
         requires { is_trading self.old.sitting.period ≡ true }
-        ensures answered { enter-result (rule_of (R.QueueRule.stands self.old.rule.rule) (R.QueueRule.meets self.old.rule.rule)) (C.Centre.own centre.old) (state_of self.old) (C.Centre.lines centre.old) entry ≡ done (state_of self.new) (C.Centre.lines centre.new) result }
+        ensures answered { enter-result (R.QueueRule.rule self.old.rule.rule) (C.Centre.own centre.old) (state_of self.old) (C.Centre.lines centre.old) entry ≡ done (state_of self.new) (C.Centre.lines centre.new) result }
         ensures rule { self.new.rule ≡ self.old.rule }
         ensures settings { C.Centre.own centre.new ≡ C.Centre.own centre.old }
         ensures layers { C.Centre.depth centre.new ≡ C.Centre.depth centre.old }

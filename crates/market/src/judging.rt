@@ -3,7 +3,6 @@ ghost use Rattle.std.specs.Prelude.{◌≡◌, ◌<◌, ◌≤◌, true, length,
 ghost use Rattle.clearing.specs.Side.{other};
 ghost use Rattle.market.specs.BookState.{Judged, Plans, orders_out_of_step, state_of, taker_of};
 ghost use Rattle.market.specs.Calls.{allowed, entry_lots, first_of, out_of_step, terms_checks, walk_checks, walk_of};
-ghost use Rattle.market.specs.Rule.{rule_of};
 ghost use Rattle.market.specs.State.{is_trading, queue_of};
 
 use crate::book::Book;
@@ -73,7 +72,7 @@ impl<R: QueueRule> Book<R> {
     fn plan(&self, entry: Entry, lots: u64) -> Plan
         requires number { self.now.last < 999999 }
         requires lots { lots ≡ entry_lots entry }
-        ensures { Plans result (walk_of (rule_of (R.QueueRule.stands self.now.rule.rule) (R.QueueRule.meets self.now.rule.rule)) (state_of self.now) entry) }
+        ensures { Plans result (walk_of (R.QueueRule.rule self.now.rule.rule) (state_of self.now) entry) }
     {
         let taker = self.taker(entry);
         let theirs = self.queue(entry.side.other());
@@ -124,7 +123,7 @@ impl<R: QueueRule> Book<R> {
     // Judges an entry: its refusal, or the plan of its walk.
     pub(crate) fn judge<C: Centre>(&self, centre: &C, entry: &Entry) -> Result<Plan, Refusal>
         requires { is_trading self.now.sitting.period ≡ true }
-        ensures { Judged (rule_of (R.QueueRule.stands self.now.rule.rule) (R.QueueRule.meets self.now.rule.rule)) (C.Centre.own centre.now) (state_of self.now) (C.Centre.lines centre.now) entry.now result }
+        ensures { Judged (R.QueueRule.rule self.now.rule.rule) (C.Centre.own centre.now) (state_of self.now) (C.Centre.lines centre.now) entry.now result }
     {
         self.check_terms(entry)?;
         let lots = entry_lots(entry);

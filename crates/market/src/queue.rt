@@ -1,7 +1,6 @@
 // The queue of one side of the book.
 ghost use Rattle.std.specs.Prelude.{◌≡◌, ◌<◌, ◌≤◌, [], length, pos, IfOk, vec_len, vec_capacity};
 ghost use Rattle.market.specs.Order.{joined, lots_resting};
-ghost use Rattle.market.specs.Rule.{rule_of};
 ghost use Rattle.ordered.specs.Row.{Found};
 
 use crate::order::Order;
@@ -51,7 +50,7 @@ impl Queue {
     // Puts an order into its place.
     pub(crate) fn join<R: QueueRule>(&mut self, rule: &ByRule<R>, order: Order)
         requires { length self.old.orders.items < 64 }
-        ensures { self.new.orders.items ≡ joined (rule_of (R.QueueRule.stands rule.now.rule) (R.QueueRule.meets rule.now.rule)) order self.old.orders.items }
+        ensures { self.new.orders.items ≡ joined (R.QueueRule.rule rule.now.rule) order self.old.orders.items }
     {
         // There is room, so no order comes back.
         let _ = add(rule, &mut self.orders, order);

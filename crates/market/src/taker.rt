@@ -1,7 +1,7 @@
 // What an entry brings to its walk down the other queue.
 ghost use Rattle.market.specs.Order.{quote_of};
 ghost use Rattle.market.specs.PlanTable.{eligible_by, near_price};
-ghost use Rattle.market.specs.Rule.{meets_across, rule_of};
+ghost use Rattle.market.specs.Rule.{meets_across};
 ghost use Rattle.market.specs.Walk.{entry_quote};
 ghost use Rattle.std.specs.Prelude.{◌≡◌};
 
@@ -32,7 +32,7 @@ impl Taker {
     }
 
     fn meets<R: QueueRule>(&self, rule: &R, order: &Order) -> bool
-        ensures { result ≡ meets_across (rule_of (R.QueueRule.stands rule.now) (R.QueueRule.meets rule.now)) self.now.entry.side (entry_quote self.now.entry self.now.number) (quote_of order.now) }
+        ensures { result ≡ meets_across (R.QueueRule.rule rule.now) self.now.entry.side (entry_quote self.now.entry self.now.number) (quote_of order.now) }
     {
         let mine = self.quote();
         let theirs = order.quote();
@@ -53,7 +53,7 @@ impl Taker {
 
     // Whether the entry can trade with a resting order, whoever its owner is.
     pub(crate) fn eligible<R: QueueRule>(&self, rule: &R, order: &Order) -> bool
-        ensures { result ≡ eligible_by (rule_of (R.QueueRule.stands rule.now) (R.QueueRule.meets rule.now)) self.now order.now }
+        ensures { result ≡ eligible_by (R.QueueRule.rule rule.now) self.now order.now }
     {
         match self.entry.kind {
             Kind::Limited => self.meets(rule, order),

@@ -6,7 +6,6 @@ use Rattle.clearing.specs.declared.grant.Grant.{Grant}
 use Rattle.market.specs.Calls.{entry_lots, rest_joins, settle_trades}
 use Rattle.market.specs.Carry.{Planned}
 use Rattle.market.specs.Order.{joined, order_of}
-use Rattle.market.specs.Rule.{Rule, rule_of}
 use Rattle.market.specs.Walk.{Walked, walk}
 use Rattle.market.proofs.entering.carry.Goals as goal
 
@@ -32,7 +31,7 @@ returns g c =
     let n = c.entry_lots-lots.ensures in
     let L = g.C.Centre.lines c.args.centre.now in
     let b = c.args.rule.now in
-    let R : Rule = rule_of (g.R.QueueRule.stands b.rule) (g.R.QueueRule.meets b.rule) in
+    let R = g.R.QueueRule.rule b.rule in
     let mine = c.args.mine.now.orders.items in
     let theirs = c.args.theirs.now.orders.items in
     let G = c.args.register.now.trades.items in

@@ -7,7 +7,6 @@ use Rattle.dealing.specs.declared.call.Call.TheVariants.{Open, Enter, Withdraw, 
 use Rattle.dealing.specs.declared.call.Entry.{Entry}
 use Rattle.market.specs.BookState.{state_of}
 use Rattle.market.specs.Calls.{answer, enter, reduce, withdraw}
-use Rattle.market.specs.Rule.{Rule, rule_of}
 use Rattle.market.specs.Sitting.{goes_on}
 use Rattle.market.specs.State.{State, is_trading, is_unopened}
 use Rattle.market.specs.declared.period.Period.{Period}
@@ -25,7 +24,7 @@ no_other p Resume on e w r = false≢true on
 pub returns-in-Some : goal.returns-in-Some
 returns-in-Some g c =
     let b = c.args.self.now in
-    let R : Rule = rule_of (g.R.QueueRule.stands b.rule.rule) (g.R.QueueRule.meets b.rule.rule) in
+    let R = g.R.QueueRule.rule b.rule.rule in
     record {
       answered = c.in-Some.ensures R (g.C.Centre.own c.args.centre.now) (state_of b) (g.C.Centre.lines c.args.centre.now);
       rule = refl;
@@ -36,35 +35,35 @@ returns-in-Some g c =
 pub enter-requires : goal.enter-requires
 enter-requires g c =
     let b = c.args.self.now in
-    let R : Rule = rule_of (g.R.QueueRule.stands b.rule.rule) (g.R.QueueRule.meets b.rule.rule) in
+    let R = g.R.QueueRule.rule b.rule.rule in
     let t = c.in_default.ensures R (g.C.Centre.own c.args.centre.now) (state_of b) (g.C.Centre.lines c.args.centre.now) in
     ap (λ (S : State). is_trading S.period) t.0 ∙ subst (λ x. goes_on b.sitting.period x ≡ true) c.in-Enter.is t.1
 
 pub withdraw-requires : goal.withdraw-requires
 withdraw-requires g c =
     let b = c.args.self.now in
-    let R : Rule = rule_of (g.R.QueueRule.stands b.rule.rule) (g.R.QueueRule.meets b.rule.rule) in
+    let R = g.R.QueueRule.rule b.rule.rule in
     let t = c.in_default.ensures R (g.C.Centre.own c.args.centre.now) (state_of b) (g.C.Centre.lines c.args.centre.now) in
     ap (λ (S : State). is_unopened S.period) t.0 ∙ not-true _ (subst (λ x. goes_on b.sitting.period x ≡ true) c.in-Withdraw.is t.1)
 
 pub reduce-requires : goal.reduce-requires
 reduce-requires g c =
     let b = c.args.self.now in
-    let R : Rule = rule_of (g.R.QueueRule.stands b.rule.rule) (g.R.QueueRule.meets b.rule.rule) in
+    let R = g.R.QueueRule.rule b.rule.rule in
     let t = c.in_default.ensures R (g.C.Centre.own c.args.centre.now) (state_of b) (g.C.Centre.lines c.args.centre.now) in
     ap (λ (S : State). is_unopened S.period) t.0 ∙ not-true _ (subst (λ x. goes_on b.sitting.period x ≡ true) c.in-Reduce.is t.1)
 
 pub unreachable-requires : goal.unreachable-requires
 unreachable-requires g c =
     let b = c.args.self.now in
-    let R : Rule = rule_of (g.R.QueueRule.stands b.rule.rule) (g.R.QueueRule.meets b.rule.rule) in
+    let R = g.R.QueueRule.rule b.rule.rule in
     let t = c.in_default.ensures R (g.C.Centre.own c.args.centre.now) (state_of b) (g.C.Centre.lines c.args.centre.now) in
     no_other b.sitting.period c.args.call t.1 c.in_default-call.not-Enter c.in_default-call.not-Withdraw c.in_default-call.not-Reduce
 
 pub returns-in-Enter : goal.returns-in-Enter
 returns-in-Enter g c =
     let b = c.args.self.now in
-    let R : Rule = rule_of (g.R.QueueRule.stands b.rule.rule) (g.R.QueueRule.meets b.rule.rule) in
+    let R = g.R.QueueRule.rule b.rule.rule in
     let C = g.C.Centre.own c.args.centre.now in
     let L = g.C.Centre.lines c.args.centre.now in
     let t = c.in_default.ensures R C (state_of b) L in
@@ -79,7 +78,7 @@ returns-in-Enter g c =
 pub returns-in-Withdraw : goal.returns-in-Withdraw
 returns-in-Withdraw g c =
     let b = c.args.self.now in
-    let R : Rule = rule_of (g.R.QueueRule.stands b.rule.rule) (g.R.QueueRule.meets b.rule.rule) in
+    let R = g.R.QueueRule.rule b.rule.rule in
     let C = g.C.Centre.own c.args.centre.now in
     let L = g.C.Centre.lines c.args.centre.now in
     let t = c.in_default.ensures R C (state_of b) L in
@@ -99,7 +98,7 @@ returns-in-Withdraw g c =
 pub returns-in-Reduce : goal.returns-in-Reduce
 returns-in-Reduce g c =
     let b = c.args.self.now in
-    let R : Rule = rule_of (g.R.QueueRule.stands b.rule.rule) (g.R.QueueRule.meets b.rule.rule) in
+    let R = g.R.QueueRule.rule b.rule.rule in
     let C = g.C.Centre.own c.args.centre.now in
     let L = g.C.Centre.lines c.args.centre.now in
     let t = c.in_default.ensures R C (state_of b) L in

@@ -4,7 +4,6 @@ use Rattle.clearing.specs.declared.side.Side.TheVariants.{Buy, Sell}
 use Rattle.market.proofs.Accepting.{carried_as, carry_needs, plan_left, sides_kept}
 use Rattle.market.specs.BookState.{state_of}
 use Rattle.market.specs.Calls.{done}
-use Rattle.market.specs.Rule.{Rule, rule_of}
 use Rattle.market.specs.declared.book.Book.{Book}
 use Rattle.market.proofs.book.Book.carry_out.Goals as goal
 use Rattle.market.proofs.book.Book.carry_out.Goals.{in-Buy, in-Sell}
@@ -12,14 +11,14 @@ use Rattle.market.proofs.book.Book.carry_out.Goals.{in-Buy, in-Sell}
 pub carry-requires : goal.carry-requires
 carry-requires g c =
     let b = c.args.self.now in
-    let R : Rule = rule_of (g.R.QueueRule.stands b.rule.rule) (g.R.QueueRule.meets b.rule.rule) in
+    let R = g.R.QueueRule.rule b.rule.rule in
     let n = carry_needs R (g.C.Centre.own c.args.centre.now) (g.C.Centre.lines c.args.centre.now) b c.args.entry.now c.args.plan c.requires Buy c.in-Buy.is in
     record { asked = n.0; planned = n.1; register = n.2; queue = n.3 }
 
 pub invariant_of-self : goal.invariant_of-self
 invariant_of-self g c =
     let b = c.args.self.now in
-    let R : Rule = rule_of (g.R.QueueRule.stands b.rule.rule) (g.R.QueueRule.meets b.rule.rule) in
+    let R = g.R.QueueRule.rule b.rule.rule in
     let last = c.carry.new in
     let kept = sides_kept R (g.C.Centre.own c.args.centre.now) (g.C.Centre.lines c.args.centre.now) b c.args.entry.now c.args.plan c.requires Buy c.in-Buy.is (g.C.Centre.lines last.centre) last.mine.orders.items last.theirs.orders.items last.register.trades.items c.carry.ensures.entered in
     record { bought = kept.0; sold = kept.1 }
@@ -27,14 +26,14 @@ invariant_of-self g c =
 pub carry-requires-in-Sell : goal.carry-requires-in-Sell
 carry-requires-in-Sell g c =
     let b = c.args.self.now in
-    let R : Rule = rule_of (g.R.QueueRule.stands b.rule.rule) (g.R.QueueRule.meets b.rule.rule) in
+    let R = g.R.QueueRule.rule b.rule.rule in
     let n = carry_needs R (g.C.Centre.own c.args.centre.now) (g.C.Centre.lines c.args.centre.now) b c.args.entry.now c.args.plan c.requires Sell c.in-Sell.is in
     record { asked = n.0; planned = n.1; register = n.2; queue = n.3 }
 
 pub invariant_of-self-in-Sell : goal.invariant_of-self-in-Sell
 invariant_of-self-in-Sell g c =
     let b = c.args.self.now in
-    let R : Rule = rule_of (g.R.QueueRule.stands b.rule.rule) (g.R.QueueRule.meets b.rule.rule) in
+    let R = g.R.QueueRule.rule b.rule.rule in
     let last = c.carry-in-Sell.new in
     let kept = sides_kept R (g.C.Centre.own c.args.centre.now) (g.C.Centre.lines c.args.centre.now) b c.args.entry.now c.args.plan c.requires Sell c.in-Sell.is (g.C.Centre.lines last.centre) last.mine.orders.items last.theirs.orders.items last.register.trades.items c.carry-in-Sell.ensures.entered in
     record { bought = kept.1; sold = kept.0 }
@@ -42,13 +41,13 @@ invariant_of-self-in-Sell g c =
 pub outcome-requires : goal.outcome-requires
 outcome-requires g c =
     let b = c.args.self.now in
-    let R : Rule = rule_of (g.R.QueueRule.stands b.rule.rule) (g.R.QueueRule.meets b.rule.rule) in
+    let R = g.R.QueueRule.rule b.rule.rule in
     plan_left R (g.C.Centre.own c.args.centre.now) (g.C.Centre.lines c.args.centre.now) b c.args.entry.now c.args.plan c.requires c.args.entry.now.side refl
 
 pub returns : goal.returns
 returns g c =
     let b = c.args.self.now in
-    let R : Rule = rule_of (g.R.QueueRule.stands b.rule.rule) (g.R.QueueRule.meets b.rule.rule) in
+    let R = g.R.QueueRule.rule b.rule.rule in
     elim c.match-entry.branch [
       | in-Buy w ↦ (
           let last = w.carry.new in

@@ -6,13 +6,12 @@ use Rattle.clearing.specs.Centre.{answered, verdict}
 use Rattle.market.proofs.Refusals.{allowed_no, allowed_yes, by_centre, by_lines, by_terms, by_walk, centre_part, plan_few, plan_lines}
 use Rattle.market.specs.BookState.{state_of}
 use Rattle.market.specs.Calls.{entry_lots, walk_of}
-use Rattle.market.specs.Rule.{Rule, rule_of}
 use Rattle.market.proofs.book.Book.judge.Goals as goal
 
 pub returns-in_err-check_terms : goal.returns-in_err-check_terms
 returns-in_err-check_terms g c =
     let b = c.args.self.now in
-    let R : Rule = rule_of (g.R.QueueRule.stands b.rule.rule) (g.R.QueueRule.meets b.rule.rule) in
+    let R = g.R.QueueRule.rule b.rule.rule in
     let e = c.args.entry.now in
     let p = err_from_is_err_and c.from_residual.result c.from_residual.ensures.1 in
     rw (p.1, p.2) (by_terms (g.C.Centre.own c.args.centre.now) (state_of b) (g.C.Centre.lines c.args.centre.now) e (walk_of R (state_of b) e) c.in_err-check_terms.field-0.0 (allowed_no _ _ (sym c.in_err-check_terms.ensures)))
@@ -20,13 +19,13 @@ returns-in_err-check_terms g c =
 pub check_walk-requires : goal.check_walk-requires
 check_walk-requires g c =
     let b = c.args.self.now in
-    let R : Rule = rule_of (g.R.QueueRule.stands b.rule.rule) (g.R.QueueRule.meets b.rule.rule) in
+    let R = g.R.QueueRule.rule b.rule.rule in
     plan_few R b c.args.entry.now c.plan-plan.result c.plan-plan.ensures
 
 pub returns-in_err-check_walk : goal.returns-in_err-check_walk
 returns-in_err-check_walk g c =
     let b = c.args.self.now in
-    let R : Rule = rule_of (g.R.QueueRule.stands b.rule.rule) (g.R.QueueRule.meets b.rule.rule) in
+    let R = g.R.QueueRule.rule b.rule.rule in
     let e = c.args.entry.now in
     let p = err_from_is_err_and c.from_residual-in_err-check_walk.result c.from_residual-in_err-check_walk.ensures.1 in
     rw (p.1, p.2) (by_walk (g.C.Centre.own c.args.centre.now) (state_of b) (g.C.Centre.lines c.args.centre.now) e (walk_of R (state_of b) e) (allowed_yes _ _ (sym c.in_ok-check_terms.ensures)) c.plan-plan.result c.plan-plan.ensures c.in_err-check_walk.field-0.0 (allowed_no _ _ (sym c.in_err-check_walk.ensures)))
@@ -34,7 +33,7 @@ returns-in_err-check_walk g c =
 pub returns-then-out_of_step : goal.returns-then-out_of_step
 returns-then-out_of_step g c =
     let b = c.args.self.now in
-    let R : Rule = rule_of (g.R.QueueRule.stands b.rule.rule) (g.R.QueueRule.meets b.rule.rule) in
+    let R = g.R.QueueRule.rule b.rule.rule in
     let e = c.args.entry.now in
     let L = g.C.Centre.lines c.args.centre.now in
     by_lines (g.C.Centre.own c.args.centre.now) (state_of b) L e (walk_of R (state_of b) e) (allowed_yes _ _ (sym c.in_ok-check_terms.ensures)) c.plan-plan.result c.plan-plan.ensures (allowed_yes _ _ (sym c.in_ok-check_walk.ensures))
@@ -43,7 +42,7 @@ returns-then-out_of_step g c =
 pub returns-in_err-map_err : goal.returns-in_err-map_err
 returns-in_err-map_err g c =
     let b = c.args.self.now in
-    let R : Rule = rule_of (g.R.QueueRule.stands b.rule.rule) (g.R.QueueRule.meets b.rule.rule) in
+    let R = g.R.QueueRule.rule b.rule.rule in
     let e = c.args.entry.now in
     let C = g.C.Centre.own c.args.centre.now in
     let L = g.C.Centre.lines c.args.centre.now in
@@ -58,7 +57,7 @@ returns-in_err-map_err g c =
 pub returns : goal.returns
 returns g c =
     let b = c.args.self.now in
-    let R : Rule = rule_of (g.R.QueueRule.stands b.rule.rule) (g.R.QueueRule.meets b.rule.rule) in
+    let R = g.R.QueueRule.rule b.rule.rule in
     let e = c.args.entry.now in
     let C = g.C.Centre.own c.args.centre.now in
     let L = g.C.Centre.lines c.args.centre.now in

@@ -5,7 +5,6 @@ use Rattle.market.proofs.PlanTables.{walk_same}
 use Rattle.market.specs.BookState.{state_of, taker_of}
 use Rattle.market.specs.Calls.{entry_lots, walk_of}
 use Rattle.market.specs.PlanTable.{walk_by}
-use Rattle.market.specs.Rule.{Rule, rule_of}
 use Rattle.market.specs.State.{queue_of}
 use Rattle.market.specs.Walk.{Walked}
 use Rattle.market.proofs.book.Book.plan.Goals as goal
@@ -13,7 +12,7 @@ use Rattle.market.proofs.book.Book.plan.Goals as goal
 pub returns : goal.returns
 returns g c =
     let b = c.args.self.now in
-    let R : Rule = rule_of (g.R.QueueRule.stands b.rule.rule) (g.R.QueueRule.meets b.rule.rule) in
+    let R = g.R.QueueRule.rule b.rule.rule in
     let S = state_of b in
     let e = c.args.entry in
     let q = queue_of (other e.side) S in

@@ -1,14 +1,14 @@
 -- The book's call is as defined, and so keeps the law.
 use Rattle.market.proofs.Runs.{call_keeps_the_law}
 use Rattle.market.specs.BookState.{state_of}
-use Rattle.market.specs.Rule.{Lawful, Rule, rule_of}
+use Rattle.market.specs.Rule.{Lawful}
 use Rattle.market.proofs.market.Market.call.Goals as goal
 
 pub returns : goal.returns
 returns g c =
     let m = c.args.self.now in
     let rule = m.book.rule.rule in
-    let R : Rule = rule_of (g.R.QueueRule.stands rule) (g.R.QueueRule.meets rule) in
+    let R = g.R.QueueRule.rule rule in
     let lawful : Lawful R = record {
       irreflexive = g.met.R.QueueRule.irreflexive rule;
       transitive = g.met.R.QueueRule.transitive rule;
