@@ -1,5 +1,5 @@
 -- What becomes of a row in a `Vec` when an item comes or goes. Assumes nothing.
-use Rattle.std.specs.Prelude.{◌≡◌, ℕ, ◌+◌, ◌<◌, ◌≤◌, Bool, Some, None, Ok, Err, vec_items, vec_len, vec_capacity, Option, Result, Vec, slice_index_or}
+use Rattle.std.specs.Prelude.{◌≡◌, ℕ, ◌+◌, ◌<◌, ◌≤◌, Bool, List, length, Some, None, Ok, Err, vec_items, vec_len, vec_capacity, Option, Result, Vec, slice_index_or}
 use Rattle.std.specs.List.{insert, remove}
 use Rattle.ordered.specs.Row.{place}
 
@@ -12,3 +12,12 @@ Added before v x w (Err y) = (vec_capacity v ≤ vec_len v) × (y ≡ x) × (w �
 abbrev pub Taken : {X Z : Type 0} → Vec X Z → ℕ → Vec X Z → Option X → Type 0
 Taken v i w (Some x) = (i < vec_len v) × (x ≡ slice_index_or (vec_items v) i x) × (vec_items w ≡ remove (vec_items v) i) × (vec_len w + 1 ≡ vec_len v) × (vec_capacity w ≡ vec_capacity v)
 Taken v i w None = (vec_len v ≤ i) × (w ≡ v)
+
+-- the same of a row that holds at most n items, seen as their list
+abbrev pub AddedWithin : {X : Type 0} → ℕ → (X → X → Bool) → List X → X → List X → Result ℕ X → Type 0
+AddedWithin n before xs x ys (Ok i) = (length xs < n) × (i ≡ place before xs x) × (ys ≡ insert xs i x)
+AddedWithin n before xs x ys (Err y) = (length xs ≡ n) × (y ≡ x) × (ys ≡ xs)
+
+abbrev pub TakenOut : {X : Type 0} → List X → ℕ → List X → Option X → Type 0
+TakenOut xs i ys (Some x) = (i < length xs) × (x ≡ slice_index_or xs i x) × (ys ≡ remove xs i)
+TakenOut xs i ys None = (length xs ≤ i) × (ys ≡ xs)

@@ -1,5 +1,5 @@
 -- The ordered row: a list of items from first to last, under a standing order `before`, each with a key. Assumes nothing.
-use Rattle.std.specs.Prelude.{◌≡◌, ℕ, zero, suc, ◌<◌, ◌≤◌, Bool, true, cond, ◌&&◌, List, [], ◌∷◌, ◌++◌, length, take, drop, ℤ, Some, None, Option, ◌≢◌, slice_index_or}
+use Rattle.std.specs.Prelude.{◌≡◌, ℕ, zero, suc, ◌<◌, Bool, true, cond, ◌&&◌, List, [], ◌∷◌, ◌++◌, length, take, drop, ℤ, Some, None, Option, ◌≢◌, slice_index_or}
 use Rattle.std.specs.List.{list_all}
 use Rattle.ordered.specs.Key.{eq_z}
 
@@ -25,10 +25,6 @@ to_end xs i = (take i xs ++ drop (suc i) xs) ++ take 1 (drop i xs)
 -- no item below the place n has the key k
 abbrev pub Lacks : {X : Type 0} → (X → ℤ) → List X → ℤ → ℕ → Type 0
 Lacks {X} key xs k n = (i : ℕ) (d : X) → i < n → key (slice_index_or xs i d) ≢ k
-
--- where a walk along the row stops: at the first item with the key, or at the end
-abbrev pub Scanned : {X : Type 0} → (X → ℤ) → List X → ℤ → ℕ → Type 0
-Scanned {X} key xs k i = (i ≤ length xs) × Lacks key xs k i × (i < length xs → (d : X) → key (slice_index_or xs i d) ≡ k)
 
 -- what a search answers: the place of the first item with the key, and none only where no item has it
 abbrev pub Found : {X : Type 0} → (X → ℤ) → List X → ℤ → Option ℕ → Type 0

@@ -6,7 +6,7 @@ ghost use Rattle.ordered.specs.Row.{Lacks, in_order};
 use crate::{Standing, insert, sink};
 
 // Puts an item into its place, for which there is room.
-fn put<T, S: Standing<T>>(by: &S, row: &mut Vec<T>, item: T) -> usize
+pub(crate) fn put<T, S: Standing<T>>(by: &S, row: &mut Vec<T>, item: T) -> usize
     requires { vec_len row.old < vec_capacity row.old }
     ensures added { Added (S.Standing.stands by.now) row.old item row.new (Ok result) }
     ensures ordered { in_order (S.Standing.stands by.now) row.old.items ≡ true → Lacks S.Standing.key row.old.items (S.Standing.key item) (length row.old.items) → in_order (S.Standing.stands by.now) row.new.items ≡ true }

@@ -3,10 +3,11 @@
 
 ghost use Rattle.std.specs.Prelude.{◌≡◌, ◌-◌, ◌<◌, ◌≤◌, Bool, true, false, not, List, [], ◌∷◌, ◌++◌, length, take, ℤ, ◌≢◌, nat_lt};
 ghost use Rattle.ordered.specs.Key.{eq_z};
-ghost use Rattle.ordered.specs.Row.{Found, Lacks, Scanned, in_order, place, to_end};
+ghost use Rattle.ordered.specs.Row.{Found, Lacks, at_key, in_order, place, to_end};
 ghost use Rattle.std.specs.List.{insert};
 
 pub mod kept;
+pub mod row;
 
 // A standing order over items of the type T: which of two comes first in a row. The implementor is the comparator, so
 // that an order with settings of its own can be one.
@@ -53,24 +54,18 @@ fn position<T, S: Standing<T>>(by: &S, row: &[T], item: &T) -> usize
     row.len()
 }
 
-// The place of the first item with a key, or the end of the row.
-fn scan<T, S: Standing<T>>(by: &S, row: &[T], wanted: i64) -> usize
-    ensures { Scanned S.Standing.key row.now wanted result }
-{
-    for (i, item) in row.iter().enumerate() {
-        if same(by.key_of(item), wanted) {
-            return i;
-        }
-    }
-    row.len()
-}
-
 // The place of the first item with a key, or none.
 pub fn find<T, S: Standing<T>>(by: &S, row: &[T], wanted: i64) -> Option<usize>
     ensures { Found S.Standing.key row.now wanted result }
 {
-    let at = scan(by, row, wanted);
-    if at < row.len() { Some(at) } else { None }
+    row.iter().position(|item| by.key_of(item) == wanted)
+}
+
+// A copy of the first item with a key, or none.
+pub fn lookup<T: Copy, S: Standing<T>>(by: &S, row: &[T], wanted: i64) -> Option<T>
+    ensures { result ≡ at_key S.Standing.key row.now wanted }
+{
+    Some(row[find(by, row, wanted)?])
 }
 
 // The place where the last item goes among the others.

@@ -2,7 +2,9 @@
 ghost use Rattle.std.specs.Prelude.{if◌then◌else◌, int_lt};
 ghost use Rattle.std.proofs.Common.{rules};
 
+use super::row::Row;
 use super::*;
+use std::test::Fail;
 
 #[derive(Clone, Copy, PartialEq, Debug)]
 struct Item {
@@ -102,4 +104,29 @@ fn removes_first_and_last_and_none_past_the_end(rt: HostRuntime) {
     assert_eq!(rt; row, [numbered(5), numbered(7), numbered(2)]);
     assert!(rt; !remove(&mut row, 3));
     assert_eq!(rt; row, [numbered(5), numbered(7), numbered(2)]);
+}
+
+#[test]
+fn keeps_a_row_within_its_room(rt: HostRuntime) -> Result<(), Fail> {
+    let by = ById { descending: false };
+    let mut row: Row<Item, 2> = Row::new(rt.alloc())?;
+    assert!(rt; !row.is_full());
+    assert_eq!(rt; row.add(&by, numbered(5)), Ok(0));
+    assert_eq!(rt; row.add(&by, numbered(2)), Ok(0));
+    assert!(rt; row.is_full());
+    assert_eq!(rt; row.add(&by, numbered(3)), Err(numbered(3)));
+    assert_eq!(rt; row.len(), 2);
+    row.item_mut(1).mark = 1;
+    assert_eq!(rt;
+        row.as_slice(),
+        [numbered(2), Item { id: 5, mark: 1 }].as_slice()
+    );
+    assert_eq!(rt; row.take(2), None);
+    assert_eq!(rt; row.take(0), Some(numbered(2)));
+    assert_eq!(rt;
+        lookup(&by, row.as_slice(), 5),
+        Some(Item { id: 5, mark: 1 })
+    );
+    assert_eq!(rt; lookup(&by, row.as_slice(), 2), None);
+    Ok(())
 }

@@ -1,0 +1,94 @@
+// A list of at most N items, with room for all of them from the start: to add one asks for no memory.
+ghost use Rattle.std.specs.Prelude.{◌≡◌, ◌+◌, ◌<◌, ◌≤◌, ◌↔◌, Bool, true, [], ◌∷◌, ◌++◌, length, IfOk, IsTrue, slice_index_or, slice_set};
+ghost use Rattle.std.specs.Borrow.{Lends, sem};
+ghost use Rattle.ordered.specs.contracts.row.Row.{the_row};
+ghost use Rattle.ordered.specs.Kept.{AddedWithin, TakenOut};
+ghost use Rattle.ordered.specs.Row.{Lacks, in_order};
+
+use crate::Standing;
+use crate::kept::{put, take};
+use std::alloc::{AllocError, Global};
+use std::marker::Model;
+
+#[derive(Drop)]
+pub struct Row<T, const N: usize> {
+    kept: Vec<T>,
+}
+
+// Clauses see the items from first to last.
+impl<T, const N: usize> Model for Row<T, N> {
+    ghost use Rattle.std.specs.Prelude.{◌≤◌, List, vec_len, vec_capacity};
+
+    ghost Value = { List T };
+
+    ghost view = { λ r. r.kept.items };
+
+    ghost invariant = { λ r. (vec_len r.kept ≤ N) × (N ≤ vec_capacity r.kept) };
+}
+
+impl<T, const N: usize> Row<T, N> {
+    // An empty row. This is the only time that it asks for memory.
+    pub fn new(heap: Global) -> Result<Row<T, N>, AllocError>
+        ensures { IfOk result (λ r. r ≡ []) }
+    {
+        let kept = Vec::with_capacity(heap, N)?;
+        Ok(Row { kept })
+    }
+
+    pub fn len(&self) -> usize
+        ensures value { result ≡ length self.now }
+        ensures few { length self.now ≤ N }
+    {
+        self.kept.len()
+    }
+
+    pub fn is_full(&self) -> bool
+        ensures full { IsTrue result ↔ (length self.now ≡ N) }
+        ensures few { length self.now ≤ N }
+    {
+        self.len() == N
+    }
+
+    pub fn as_slice(&self) -> &[T]
+        ensures items { result.now ≡ self.now }
+        ensures few { length self.now ≤ N }
+    {
+        self.kept.as_slice()
+    }
+
+    // Puts an item behind the others.
+    pub fn push(&mut self, item: T)
+        requires { length self.old < N }
+        ensures { self.new ≡ self.old ++ item ∷ [] }
+    {
+        self.kept.push_reserved(item);
+    }
+
+    // Puts an item into its place, which is answered; a full row hands it back.
+    pub fn add<S: Standing<T>>(&mut self, by: &S, item: T) -> Result<usize, T>
+        ensures added { AddedWithin N (S.Standing.stands by.now) self.old item self.new result }
+        ensures ordered { in_order (S.Standing.stands by.now) self.old ≡ true → Lacks S.Standing.key self.old (S.Standing.key item) (length self.old) → in_order (S.Standing.stands by.now) self.new ≡ true }
+    {
+        if self.is_full() {
+            return Err(item);
+        }
+        Ok(put(by, &mut self.kept, item))
+    }
+
+    // Takes the item at a place out of the row; none where the place is past its end.
+    pub fn take(&mut self, at: usize) -> Option<T>
+        ensures taken { TakenOut self.old at self.new result }
+        ensures ordered { (before : T → T → Bool) → in_order before self.old ≡ true → in_order before self.new ≡ true }
+    {
+        take(&mut self.kept, at)
+    }
+
+    // Lends the item at a place.
+    pub fn item_mut(&mut self, at: usize) -> &mut T
+        requires { at < length self.old }
+        ensures* lends { sem 𝓛 (Lends (the_row T.row N.row) T.row self.entry result (slice_set self.old at)) }
+        ensures value { result.now ≡ slice_index_or self.old at result.now }
+    {
+        &mut self.kept[at]
+    }
+}
