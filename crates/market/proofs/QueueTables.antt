@@ -1,7 +1,5 @@
 -- What the orders of a queue say, one place at a time. Assumes nothing.
-use Rattle.std.proofs.Common.{◌≡◌, ℕ, zero, suc, ◌+◌, ◌-◌, ◌<◌, ◌≤◌, Bool, true, false, cond, eqb, leb, List, [], ◌∷◌, ◌++◌, length, get_or, drop, set, ℤ, pos, Some, vec_len, vec_capacity, Vec, sym, refl, ap, ◌∙◌, inl, inr, arith}
-use native.Mathlib.Bridge.{le_prop}
-use Rattle.std.specs.declared.alloc.Global.{Global}
+use Rattle.std.proofs.Common.{◌≡◌, ℕ, zero, suc, ◌+◌, ◌-◌, ◌<◌, Bool, true, false, cond, eqb, leb, List, [], ◌∷◌, ◌++◌, length, get_or, drop, set, ℤ, pos, Some, sym, refl, ap, ◌∙◌, inl, inr, arith}
 use Rattle.std.proofs.lemmas.List.{at_drop_more}
 use Rattle.std.proofs.lemmas.Bool.{cases_Bool, cond-false, cond-true, eq-eqb, leb-false, leb-true, ne_eqb}
 use Rattle.ordered.specs.Key.{eq_z}
@@ -10,11 +8,6 @@ use Rattle.clearing.specs.declared.side.Side.TheVariants.{Buy}
 use Rattle.market.specs.Order.{account_of, lots_of, lots_resting, lower, lowered, order_of}
 use Rattle.market.specs.QueueTable.{cleared_at, lowered_at}
 use Rattle.market.specs.declared.order.Order.{Order}
-use Rattle.market.specs.declared.queue.Queue.{Queue}
-
--- each bound of a queue has one proof at most
-pub same_queue : (v : Vec Order Global) (few few' : vec_len v ≤ 64) (room room' : 64 ≤ vec_capacity v) → ◌≡◌ {A = Queue} (record { orders = v; few = few; room = room }) (record { orders = v; few = few'; room = room' })
-same_queue v few few' room room' k = record { orders = v; few = le_prop few few' k; room = le_prop room room' k }
 
 -- the order that is found by its number is the one that is lowered
 pub lower_found : (q : List Order) (k : ℕ) (i : ℕ) (n : ℕ) → Found (λ o. pos o.number) q (pos k) (Some i) → lower k n q ≡ lowered_at i n q

@@ -7,19 +7,17 @@ use Rattle.clearing.specs.Centre.{Lines, Own, answered, verdict}
 use Rattle.clearing.specs.Side.{other}
 use Rattle.clearing.specs.declared.cause.Denial.{Denial}
 use Rattle.clearing.specs.declared.side.Side.{Side}
-use Rattle.clearing.specs.declared.side.Side.TheVariants.{Buy, Sell}
 use Rattle.dealing.specs.declared.call.Entry.{Entry}
 use Rattle.dealing.specs.declared.refusal.Refusal.{Refusal}
 use Rattle.dealing.specs.declared.refusal.Refusal.TheVariants.{CentreDenies, OutOfStep}
 use Rattle.market.proofs.Carried.{trade_other}
 use Rattle.market.proofs.Walking.{walk_induction}
-use Rattle.market.specs.BookState.{Plans, orders_out_of_step, state_of}
+use Rattle.market.specs.BookState.{Plans, orders_out_of_step}
 use Rattle.market.specs.Calls.{Check, allowed, centre_denies, check, entry_lots, entry_refusal, first_of, or_else, out_of_step, terms_checks, trades_out_of_step, walk_checks, walk_of}
 use Rattle.market.specs.Order.{lots_of, party}
 use Rattle.market.specs.Rule.{Rule}
 use Rattle.market.specs.State.{State, queue_of}
 use Rattle.market.specs.Walk.{Walked, eligible_for, walk}
-use Rattle.market.specs.declared.book.Book.{Book}
 use Rattle.market.specs.declared.order.Order.{Order}
 use Rattle.market.specs.declared.plan.Plan.{Plan}
 
@@ -109,11 +107,6 @@ pub centre_part : (v : Option Denial) (q : Result (Unit {0}) Denial) (m : Result
 centre_part None q m e cases = MatchResult-at_ok _ _ tt e cases
 centre_part (Some d) q m e cases = MatchResult-at_err _ _ d e cases
 
--- a queue of a book has at most 64 orders
-pub queue_few : {R : Type 0} (b : Book R) (s : Side) → length (queue_of s (state_of b)) ≤ 64
-queue_few b Buy = omega (arith, b.buys.few, b.buys.orders.ok.0)
-queue_few b Sell = omega (arith, b.sells.few, b.sells.orders.ok.0)
-
 -- the orders that were looked at are those that the planned walk trades with
 pub plan_lines : (R : Rule) (S : State) (L : Lines) (e : Entry) (p : Plan) → Plans p (walk_of R S e) → (z : Side) → z ≡ other e.side → (b : Bool) → b ≡ orders_out_of_step S L z (take p.trades (queue_of z S)) → trades_out_of_step S L (other e.side) (walk_of R S e).trades ≡ b
 plan_lines R S L e p plans z same b out =
@@ -121,12 +114,10 @@ plan_lines R S L e p plans z same b out =
     ∙ ap₂ (λ x n. orders_out_of_step S L x (take n (queue_of x S))) (sym same) (sym plans.trades)
     ∙ sym out
 
--- a planned walk makes at most 64 trades
-pub plan_few : {X : Type 0} (R : Rule) (b : Book X) (e : Entry) (p : Plan) → Plans p (walk_of R (state_of b) e) → p.trades ≤ 64
-plan_few R b e p plans =
-    let S = state_of b in
+-- a planned walk makes no more trades than the other queue has orders
+pub plan_few : (R : Rule) (S : State) (e : Entry) (p : Plan) → Plans p (walk_of R S e) → p.trades ≤ length (queue_of (other e.side) S)
+plan_few R S e p plans =
     let q = queue_of (other e.side) S in
     let few = few_trades (eligible_for e.kind R S.deviation (suc S.last) q e) e (suc S.last) (entry_lots e) q in
-    let all = queue_few b (other e.side) in
     let t = plans.trades in
     omega arith

@@ -1,5 +1,5 @@
 -- A book as a state of the market, and what its parts are asked. Assumes nothing.
-use Rattle.std.specs.Prelude.{◌≡◌, ℕ, suc, ◌-◌, Bool, cond, List, length, Some, None, Ok, Err, vec_items, Result, ◌==◌}
+use Rattle.std.specs.Prelude.{◌≡◌, ℕ, suc, ◌-◌, Bool, cond, List, length, Some, None, Ok, Err, Result, ◌==◌}
 use Rattle.std.specs.List.{list_any}
 use Rattle.clearing.specs.Centre.{Lines, Own}
 use Rattle.clearing.specs.Side.{other}
@@ -26,9 +26,9 @@ state_of b = record {
   high = b.sitting.high;
   deviation = b.sitting.deviation;
   last = b.last;
-  buys = vec_items b.buys.orders;
-  sells = vec_items b.sells.orders;
-  register = vec_items b.register.trades;
+  buys = b.buys.orders;
+  sells = b.sells.orders;
+  register = b.register;
 }
 
 -- what an entry brings to its walk, under the next number

@@ -87,12 +87,12 @@ fn trade_first<C: Centre>(
     grant: Grant,
     lots: u64,
 ) -> Grant
-    requires room { length register.old.trades.items < 512 }
+    requires room { length register.old < 512 }
     requires account { grant.account ≡ me.account }
     requires side { grant.side ≡ side }
     requires lots { lots ≤ grant.lots }
-    requires can { CanTrade (C.Centre.lines centre.old) theirs.old.orders.items side me lots }
-    ensures traded { TradedFirst side me lots (C.Centre.lines centre.old) theirs.old.orders.items register.old.trades.items (C.Centre.lines centre.new) theirs.new.orders.items register.new.trades.items }
+    requires can { CanTrade (C.Centre.lines centre.old) theirs.old.orders side me lots }
+    ensures traded { TradedFirst side me lots (C.Centre.lines centre.old) theirs.old.orders register.old (C.Centre.lines centre.new) theirs.new.orders register.new }
     ensures grant { result ≡ grant_of me.account side (grant.lots - lots) }
     ensures settings { C.Centre.own centre.new ≡ C.Centre.own centre.old }
     ensures layers { C.Centre.depth centre.new ≡ C.Centre.depth centre.old }
@@ -107,8 +107,8 @@ fn trade_first<C: Centre>(
 
 // The lots of the first order of a queue, or so many as are asked for.
 fn first_lots(theirs: &Queue, lots: u64) -> u64
-    requires { 1 ≤ length theirs.now.orders.items }
-    ensures { Least theirs.now.orders.items lots result }
+    requires { 1 ≤ length theirs.now.orders }
+    ensures { Least theirs.now.orders lots result }
 {
     lots.min(theirs.as_slice()[0].lots())
 }
@@ -124,10 +124,10 @@ pub(crate) fn trade_on<C: Centre>(
     lots: u64,
     trades: usize,
 ) -> Grant
-    requires room { length register.old.trades.items + trades ≤ 512 }
+    requires room { length register.old + trades ≤ 512 }
     requires grant { grant ≡ grant_of entry.now.account entry.now.side lots }
-    requires planned { Planned (C.Centre.lines centre.old) theirs.old.orders.items entry.now number lots trades }
-    ensures carried { CarriedOut entry.now number lots trades (C.Centre.lines centre.old) theirs.old.orders.items register.old.trades.items (C.Centre.lines centre.new) theirs.new.orders.items register.new.trades.items result }
+    requires planned { Planned (C.Centre.lines centre.old) theirs.old.orders entry.now number lots trades }
+    ensures carried { CarriedOut entry.now number lots trades (C.Centre.lines centre.old) theirs.old.orders register.old (C.Centre.lines centre.new) theirs.new.orders register.new result }
     ensures held { holds (C.Centre.lines centre.new entry.now.account) entry.now.side result.lots ≡ true }
     ensures settings { C.Centre.own centre.new ≡ C.Centre.own centre.old }
     ensures layers { C.Centre.depth centre.new ≡ C.Centre.depth centre.old }

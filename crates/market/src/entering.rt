@@ -36,11 +36,11 @@ fn leave_rest<R: QueueRule, C: Centre>(
     rest: Grant,
     ending: Ending,
 )
-    requires room { rest_joins entry.now ending ≡ true → length mine.old.orders.items < 64 }
+    requires room { rest_joins entry.now ending ≡ true → length mine.old.orders < 64 }
     requires account { rest.account ≡ entry.now.account }
     requires side { rest.side ≡ entry.now.side }
     requires held { holds (C.Centre.lines centre.old entry.now.account) entry.now.side rest.lots ≡ true }
-    ensures queue { mine.new.orders.items ≡ (if rest_joins entry.now ending then joined (R.QueueRule.rule rule.now.rule) (order_of entry.now.account entry.now.side number entry.now.price rest.lots) mine.old.orders.items else mine.old.orders.items) }
+    ensures queue { mine.new.orders ≡ (if rest_joins entry.now ending then joined (R.QueueRule.rule rule.now.rule) (order_of entry.now.account entry.now.side number entry.now.price rest.lots) mine.old.orders else mine.old.orders) }
     ensures lines { C.Centre.lines centre.new ≡ (if rest_joins entry.now ending then C.Centre.lines centre.old else adjusted (C.Centre.lines centre.old) entry.now.account (release entry.now.side rest.lots)) }
     ensures settings { C.Centre.own centre.new ≡ C.Centre.own centre.old }
     ensures layers { C.Centre.depth centre.new ≡ C.Centre.depth centre.old }
@@ -69,10 +69,10 @@ fn carry<R: QueueRule, C: Centre>(
     plan: Plan,
 )
     requires asked { verdict (C.Centre.own centre.old) (C.Centre.lines centre.old) entry.now.account entry.now.side (entry_lots entry.now) ≡ None }
-    requires planned { Planned (adjusted (C.Centre.lines centre.old) entry.now.account (hold entry.now.side (entry_lots entry.now))) theirs.old.orders.items entry.now number (entry_lots entry.now) plan.trades }
-    requires register { length register.old.trades.items + plan.trades ≤ 512 }
-    requires queue { rest_joins entry.now plan.ending ≡ true → length mine.old.orders.items < 64 }
-    ensures entered { EnteredBook (R.QueueRule.rule rule.now.rule) entry.now number plan (C.Centre.lines centre.old) mine.old.orders.items theirs.old.orders.items register.old.trades.items (C.Centre.lines centre.new) mine.new.orders.items theirs.new.orders.items register.new.trades.items }
+    requires planned { Planned (adjusted (C.Centre.lines centre.old) entry.now.account (hold entry.now.side (entry_lots entry.now))) theirs.old.orders entry.now number (entry_lots entry.now) plan.trades }
+    requires register { length register.old + plan.trades ≤ 512 }
+    requires queue { rest_joins entry.now plan.ending ≡ true → length mine.old.orders < 64 }
+    ensures entered { EnteredBook (R.QueueRule.rule rule.now.rule) entry.now number plan (C.Centre.lines centre.old) mine.old.orders theirs.old.orders register.old (C.Centre.lines centre.new) mine.new.orders theirs.new.orders register.new }
     ensures settings { C.Centre.own centre.new ≡ C.Centre.own centre.old }
     ensures layers { C.Centre.depth centre.new ≡ C.Centre.depth centre.old }
 {

@@ -23,7 +23,7 @@ const LAST_NUMBER: u32 = 999_999;
 
 impl<R: QueueRule> Book<R> {
     pub(crate) fn queue(&self, side: Side) -> &Queue
-        ensures { result.now.orders.items ≡ queue_of side (state_of self.now) }
+        ensures { result.now.orders ≡ queue_of side (state_of self.now) }
     {
         match side {
             Side::Buy => &self.buys,
@@ -72,7 +72,8 @@ impl<R: QueueRule> Book<R> {
     fn plan(&self, entry: Entry, lots: u64) -> Plan
         requires number { self.now.last < 999999 }
         requires lots { lots ≡ entry_lots entry }
-        ensures { Plans result (walk_of (R.QueueRule.rule self.now.rule.rule) (state_of self.now) entry) }
+        ensures plans { Plans result (walk_of (R.QueueRule.rule self.now.rule.rule) (state_of self.now) entry) }
+        ensures few { result.trades ≤ 64 }
     {
         let taker = self.taker(entry);
         let theirs = self.queue(entry.side.other());
@@ -93,7 +94,7 @@ impl<R: QueueRule> Book<R> {
         if self.register.len() + trades > 512 {
             return Err(Refusal::RegisterFull);
         }
-        if rest_joins(entry, ending) && self.queue(entry.side).len() >= 64 {
+        if rest_joins(entry, ending) && self.queue(entry.side).is_full() {
             return Err(Refusal::QueueFull);
         }
         Ok(())

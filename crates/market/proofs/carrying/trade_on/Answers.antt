@@ -26,7 +26,7 @@ trade_first-rest-requires g c =
       account = ap (λ (x : Grant). x.account) way.grant ∙ same;
       side = ap (λ (x : Grant). x.side) way.grant;
       lots = can.1;
-      can = subst (λ a. CanTrade (g.C.Centre.lines c.loop-i.centre) c.loop-i.theirs.orders.items c.args.entry.now.side (party c.args.number a) c.first_lots-n.result) same can.0;
+      can = subst (λ a. CanTrade (g.C.Centre.lines c.loop-i.centre) c.loop-i.theirs.orders c.args.entry.now.side (party c.args.number a) c.first_lots-n.result) same can.0;
     }
 
 pub overflow_sub-left : goal.overflow_sub-left
@@ -43,8 +43,8 @@ loop-i-preserved g c =
     let same = to_z-of_z w64 c.args.entry.now.account f in
     let t = c.trade_first-rest.ensures in
     let last = c.trade_first-rest.new in (
-      way_on _ _ _ _ _ _ _ _ _ _ _ _ _ way c.loop-i-test.true c.first_lots-n.result (g.C.Centre.lines last.centre) last.theirs.orders.items last.register.trades.items c.trade_first-rest.result c.first_lots-n.ensures
-          (subst (λ a. TradedFirst c.args.entry.now.side (party c.args.number a) c.first_lots-n.result (g.C.Centre.lines c.loop-i.centre) c.loop-i.theirs.orders.items c.loop-i.register.trades.items (g.C.Centre.lines last.centre) last.theirs.orders.items last.register.trades.items) same t.traded)
+      way_on _ _ _ _ _ _ _ _ _ _ _ _ _ way c.loop-i-test.true c.first_lots-n.result (g.C.Centre.lines last.centre) last.theirs.orders last.register c.trade_first-rest.result c.first_lots-n.ensures
+          (subst (λ a. TradedFirst c.args.entry.now.side (party c.args.number a) c.first_lots-n.result (g.C.Centre.lines c.loop-i.centre) c.loop-i.theirs.orders c.loop-i.register (g.C.Centre.lines last.centre) last.theirs.orders last.register) same t.traded)
           (t.grant ∙ ap (λ a. grant_of a c.args.entry.now.side (c.loop-i.rest.lots - c.first_lots-n.result)) same),
       t.settings ∙ c.loop-i.invariant.1,
       t.layers ∙ c.loop-i.invariant.2,

@@ -20,7 +20,7 @@ invariant_of-self g c =
     let b = c.args.self.now in
     let R = g.R.QueueRule.rule b.rule.rule in
     let last = c.carry.new in
-    let kept = sides_kept R (g.C.Centre.own c.args.centre.now) (g.C.Centre.lines c.args.centre.now) b c.args.entry.now c.args.plan c.requires Buy c.in-Buy.is (g.C.Centre.lines last.centre) last.mine.orders.items last.theirs.orders.items last.register.trades.items c.carry.ensures.entered in
+    let kept = sides_kept R (g.C.Centre.own c.args.centre.now) (g.C.Centre.lines c.args.centre.now) b c.args.entry.now c.args.plan c.requires Buy c.in-Buy.is (g.C.Centre.lines last.centre) last.mine.orders last.theirs.orders last.register c.carry.ensures.entered in
     record { bought = kept.0; sold = kept.1 }
 
 pub carry-requires-in-Sell : goal.carry-requires-in-Sell
@@ -35,7 +35,7 @@ invariant_of-self-in-Sell g c =
     let b = c.args.self.now in
     let R = g.R.QueueRule.rule b.rule.rule in
     let last = c.carry-in-Sell.new in
-    let kept = sides_kept R (g.C.Centre.own c.args.centre.now) (g.C.Centre.lines c.args.centre.now) b c.args.entry.now c.args.plan c.requires Sell c.in-Sell.is (g.C.Centre.lines last.centre) last.mine.orders.items last.theirs.orders.items last.register.trades.items c.carry-in-Sell.ensures.entered in
+    let kept = sides_kept R (g.C.Centre.own c.args.centre.now) (g.C.Centre.lines c.args.centre.now) b c.args.entry.now c.args.plan c.requires Sell c.in-Sell.is (g.C.Centre.lines last.centre) last.mine.orders last.theirs.orders last.register c.carry-in-Sell.ensures.entered in
     record { bought = kept.1; sold = kept.0 }
 
 pub outcome-requires : goal.outcome-requires
@@ -51,7 +51,7 @@ returns g c =
     elim c.match-entry.branch [
       | in-Buy w ↦ (
           let last = w.carry.new in
-          let did = carried_as R (g.C.Centre.own c.args.centre.now) (g.C.Centre.lines c.args.centre.now) b c.args.entry.now c.args.plan c.requires Buy w.in-Buy.is (g.C.Centre.lines last.centre) last.mine.orders.items last.theirs.orders.items last.register.trades.items w.carry.ensures.entered c.outcome.result c.outcome.ensures in
+          let did = carried_as R (g.C.Centre.own c.args.centre.now) (g.C.Centre.lines c.args.centre.now) b c.args.entry.now c.args.plan c.requires Buy w.in-Buy.is (g.C.Centre.lines last.centre) last.mine.orders last.theirs.orders last.register w.carry.ensures.entered c.outcome.result c.outcome.ensures in
           record {
             answered = did ∙ ap₂ (λ T M. done T M (Ok c.outcome.result)) (sym (ap state_of w.self-is)) (sym (ap g.C.Centre.lines w.centre-is));
             rule = ap (λ (x : Book g.row.R.Denot). x.rule) w.self-is;
@@ -60,7 +60,7 @@ returns g c =
           })
       | in-Sell w ↦ (
           let last = w.carry-in-Sell.new in
-          let did = carried_as R (g.C.Centre.own c.args.centre.now) (g.C.Centre.lines c.args.centre.now) b c.args.entry.now c.args.plan c.requires Sell w.in-Sell.is (g.C.Centre.lines last.centre) last.mine.orders.items last.theirs.orders.items last.register.trades.items w.carry-in-Sell.ensures.entered c.outcome.result c.outcome.ensures in
+          let did = carried_as R (g.C.Centre.own c.args.centre.now) (g.C.Centre.lines c.args.centre.now) b c.args.entry.now c.args.plan c.requires Sell w.in-Sell.is (g.C.Centre.lines last.centre) last.mine.orders last.theirs.orders last.register w.carry-in-Sell.ensures.entered c.outcome.result c.outcome.ensures in
           record {
             answered = did ∙ ap₂ (λ T M. done T M (Ok c.outcome.result)) (sym (ap state_of w.self-is)) (sym (ap g.C.Centre.lines w.centre-is));
             rule = ap (λ (x : Book g.row.R.Denot). x.rule) w.self-is;
