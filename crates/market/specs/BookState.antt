@@ -33,7 +33,7 @@ state_of b = record {
 
 -- what an entry brings to its walk, under the next number
 abbrev pub taker_of : State → Entry → Taker
-taker_of S e = record { entry = e; number = suc S.last; deviation = S.deviation; first = first_price (queue_of (other e.side) S) }
+taker_of S e = record { numbered = record { entry = e; number = suc S.last }; deviation = S.deviation; first = first_price (queue_of (other e.side) S) }
 
 -- a plan tells how a walk ends, the lots that are left and how many trades are made
 pub record Plans (p : Plan) (w : Walked) : Type 0 where

@@ -7,6 +7,7 @@ ghost use Rattle.clearing.specs.Line.{hold as held_line, release as released_lin
 ghost use Rattle.market.specs.Carry.{CanTrade, CarriedOut, Least, Planned, TradedFirst};
 ghost use Rattle.market.specs.Order.{party, trade_of};
 
+use crate::numbered::Numbered;
 use crate::order::Order;
 use crate::queue::Queue;
 use crate::register::Register;
@@ -118,29 +119,25 @@ pub(crate) fn trade_on<C: Centre>(
     theirs: &mut Queue,
     register: &mut Register,
     centre: &mut C,
-    entry: &Entry,
-    number: u32,
+    numbered: &Numbered,
     grant: Grant,
     lots: u64,
     trades: usize,
 ) -> Grant
     requires room { length register.old + trades ≤ 512 }
-    requires grant { grant ≡ grant_of entry.now.account entry.now.side lots }
-    requires planned { Planned (C.Centre.lines centre.old) theirs.old.orders entry.now number lots trades }
-    ensures carried { CarriedOut entry.now number lots trades (C.Centre.lines centre.old) theirs.old.orders register.old (C.Centre.lines centre.new) theirs.new.orders register.new result }
-    ensures held { holds (C.Centre.lines centre.new entry.now.account) entry.now.side result.lots ≡ true }
+    requires grant { grant ≡ grant_of numbered.now.entry.account numbered.now.entry.side lots }
+    requires planned { Planned (C.Centre.lines centre.old) theirs.old.orders numbered.now.entry numbered.now.number lots trades }
+    ensures carried { CarriedOut numbered.now.entry numbered.now.number lots trades (C.Centre.lines centre.old) theirs.old.orders register.old (C.Centre.lines centre.new) theirs.new.orders register.new result }
+    ensures held { holds (C.Centre.lines centre.new numbered.now.entry.account) numbered.now.entry.side result.lots ≡ true }
     ensures settings { C.Centre.own centre.new ≡ C.Centre.own centre.old }
     ensures layers { C.Centre.depth centre.new ≡ C.Centre.depth centre.old }
 {
-    let me = Party {
-        number,
-        account: entry.account,
-    };
+    let me = numbered.party();
     let mut rest = grant;
     let mut left = lots;
     for _i in 0..trades {
         let n = first_lots(theirs, left);
-        rest = trade_first(theirs, register, centre, entry.side, me, rest, n);
+        rest = trade_first(theirs, register, centre, numbered.entry.side, me, rest, n);
         left -= n;
     }
     rest

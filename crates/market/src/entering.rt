@@ -13,6 +13,7 @@ use crate::book::Book;
 use crate::carrying::{give_back, reserve, trade_on};
 use crate::checks::{entry_lots, rest_joins};
 use crate::ending::Ending;
+use crate::numbered::Numbered;
 use crate::order::Order;
 use crate::plan::Plan;
 use crate::queue::Queue;
@@ -31,24 +32,23 @@ fn leave_rest<R: QueueRule, C: Centre>(
     rule: &ByRule<R>,
     mine: &mut Queue,
     centre: &mut C,
-    entry: &Entry,
-    number: u32,
+    numbered: &Numbered,
     rest: Grant,
     ending: Ending,
 )
-    requires room { rest_joins entry.now ending ≡ true → length mine.old.orders < 64 }
-    requires account { rest.account ≡ entry.now.account }
-    requires side { rest.side ≡ entry.now.side }
-    requires held { holds (C.Centre.lines centre.old entry.now.account) entry.now.side rest.lots ≡ true }
-    ensures queue { mine.new.orders ≡ (if rest_joins entry.now ending then joined (R.QueueRule.rule rule.now.rule) (order_of entry.now.account entry.now.side number entry.now.price rest.lots) mine.old.orders else mine.old.orders) }
-    ensures lines { C.Centre.lines centre.new ≡ (if rest_joins entry.now ending then C.Centre.lines centre.old else adjusted (C.Centre.lines centre.old) entry.now.account (release entry.now.side rest.lots)) }
+    requires room { rest_joins numbered.now.entry ending ≡ true → length mine.old.orders < 64 }
+    requires account { rest.account ≡ numbered.now.entry.account }
+    requires side { rest.side ≡ numbered.now.entry.side }
+    requires held { holds (C.Centre.lines centre.old numbered.now.entry.account) numbered.now.entry.side rest.lots ≡ true }
+    ensures queue { mine.new.orders ≡ (if rest_joins numbered.now.entry ending then joined (R.QueueRule.rule rule.now.rule) (order_of numbered.now.entry.account numbered.now.entry.side numbered.now.number numbered.now.entry.price rest.lots) mine.old.orders else mine.old.orders) }
+    ensures lines { C.Centre.lines centre.new ≡ (if rest_joins numbered.now.entry ending then C.Centre.lines centre.old else adjusted (C.Centre.lines centre.old) numbered.now.entry.account (release numbered.now.entry.side rest.lots)) }
     ensures settings { C.Centre.own centre.new ≡ C.Centre.own centre.old }
     ensures layers { C.Centre.depth centre.new ≡ C.Centre.depth centre.old }
 {
-    if rest_joins(entry, ending) {
+    if rest_joins(&numbered.entry, ending) {
         let order = Order {
-            number,
-            price: entry.price,
+            number: numbered.number,
+            price: numbered.entry.price,
             resting: rest.rest(),
         };
         mine.join(rule, order);
@@ -64,51 +64,41 @@ fn carry<R: QueueRule, C: Centre>(
     theirs: &mut Queue,
     register: &mut Register,
     centre: &mut C,
-    entry: &Entry,
-    number: u32,
+    numbered: &Numbered,
     plan: Plan,
 )
-    requires asked { verdict (C.Centre.own centre.old) (C.Centre.lines centre.old) entry.now.account entry.now.side (entry_lots entry.now) ≡ None }
-    requires planned { Planned (adjusted (C.Centre.lines centre.old) entry.now.account (hold entry.now.side (entry_lots entry.now))) theirs.old.orders entry.now number (entry_lots entry.now) plan.trades }
+    requires asked { verdict (C.Centre.own centre.old) (C.Centre.lines centre.old) numbered.now.entry.account numbered.now.entry.side (entry_lots numbered.now.entry) ≡ None }
+    requires planned { Planned (adjusted (C.Centre.lines centre.old) numbered.now.entry.account (hold numbered.now.entry.side (entry_lots numbered.now.entry))) theirs.old.orders numbered.now.entry numbered.now.number (entry_lots numbered.now.entry) plan.trades }
     requires register { length register.old + plan.trades ≤ 512 }
-    requires queue { rest_joins entry.now plan.ending ≡ true → length mine.old.orders < 64 }
-    ensures entered { EnteredBook (R.QueueRule.rule rule.now.rule) entry.now number plan (C.Centre.lines centre.old) mine.old.orders theirs.old.orders register.old (C.Centre.lines centre.new) mine.new.orders theirs.new.orders register.new }
+    requires queue { rest_joins numbered.now.entry plan.ending ≡ true → length mine.old.orders < 64 }
+    ensures entered { EnteredBook (R.QueueRule.rule rule.now.rule) numbered.now.entry numbered.now.number plan (C.Centre.lines centre.old) mine.old.orders theirs.old.orders register.old (C.Centre.lines centre.new) mine.new.orders theirs.new.orders register.new }
     ensures settings { C.Centre.own centre.new ≡ C.Centre.own centre.old }
     ensures layers { C.Centre.depth centre.new ≡ C.Centre.depth centre.old }
 {
-    let lots = entry_lots(entry);
-    let grant = reserve(centre, entry, lots);
-    let rest = trade_on(
-        theirs,
-        register,
-        centre,
-        entry,
-        number,
-        grant,
-        lots,
-        plan.trades,
-    );
-    leave_rest(rule, mine, centre, entry, number, rest, plan.ending);
+    let lots = entry_lots(&numbered.entry);
+    let grant = reserve(centre, &numbered.entry, lots);
+    let rest = trade_on(theirs, register, centre, numbered, grant, lots, plan.trades);
+    leave_rest(rule, mine, centre, numbered, rest, plan.ending);
 }
 
 // The outcome of an entry that was carried out.
-fn outcome(entry: &Entry, number: u32, plan: Plan) -> Outcome
-    requires { plan.left ≤ entry_lots entry.now }
-    ensures { result ≡ entry_outcome entry.now number (entry_lots entry.now) plan.ending plan.left }
+fn outcome(numbered: &Numbered, plan: Plan) -> Outcome
+    requires { plan.left ≤ entry_lots numbered.now.entry }
+    ensures { result ≡ entry_outcome numbered.now.entry numbered.now.number (entry_lots numbered.now.entry) plan.ending plan.left }
 {
-    let traded = entry_lots(entry) - plan.left;
-    let (resting, taken_off) = if rest_joins(entry, plan.ending) {
+    let traded = entry_lots(&numbered.entry) - plan.left;
+    let (resting, taken_off) = if rest_joins(&numbered.entry, plan.ending) {
         (plan.left, 0)
     } else {
         (0, plan.left)
     };
     let figures = Figures {
-        number,
+        number: numbered.number,
         traded,
         resting,
         taken_off,
     };
-    match (plan.ending, entry.rest, traded == 0) {
+    match (plan.ending, numbered.entry.rest, traded == 0) {
         (Ending::Filled, _, _) => Outcome::Filled(figures),
         (Ending::Short, Rest::Queue, true) => Outcome::Resting(figures),
         (Ending::Short, Rest::Queue, false) => Outcome::PartResting(figures),
@@ -129,6 +119,10 @@ impl<R: QueueRule> Book<R> {
     {
         let number = self.last + 1;
         self.last = number;
+        let numbered = Numbered {
+            entry: *entry,
+            number,
+        };
         match entry.side {
             Side::Buy => carry(
                 &self.rule,
@@ -136,8 +130,7 @@ impl<R: QueueRule> Book<R> {
                 &mut self.sells,
                 &mut self.register,
                 centre,
-                entry,
-                number,
+                &numbered,
                 plan,
             ),
             Side::Sell => carry(
@@ -146,12 +139,11 @@ impl<R: QueueRule> Book<R> {
                 &mut self.buys,
                 &mut self.register,
                 centre,
-                entry,
-                number,
+                &numbered,
                 plan,
             ),
         }
-        outcome(entry, number, plan)
+        outcome(&numbered, plan)
     }
 
     // Enters an order: it is judged, and then carried out.

@@ -8,6 +8,7 @@ ghost use Rattle.market.specs.State.{is_trading, queue_of};
 use crate::book::Book;
 use crate::checks::{bad_market_terms, entry_lots, lots_fit, out_of_band, rest_joins};
 use crate::ending::Ending;
+use crate::numbered::Numbered;
 use crate::plan::{Plan, plan_walk};
 use crate::queue::Queue;
 use crate::rule::QueueRule;
@@ -60,9 +61,9 @@ impl<R: QueueRule> Book<R> {
             [order, ..] => Some(order.price),
             [] => None,
         };
+        let number = self.last + 1;
         Taker {
-            entry,
-            number: self.last + 1,
+            numbered: Numbered { entry, number },
             deviation: self.sitting.deviation,
             first,
         }

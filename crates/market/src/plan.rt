@@ -29,7 +29,7 @@ enum Reach {
 }
 
 fn judge<R: QueueRule>(rule: &R, taker: &Taker, left: u64, order: &Order) -> Reach
-    ensures { result ≡ reach_of (eligible_by (R.QueueRule.rule rule.now) taker.now) taker.now.entry left order.now }
+    ensures { result ≡ reach_of (eligible_by (R.QueueRule.rule rule.now) taker.now) taker.now.numbered.entry left order.now }
 {
     if left == 0 {
         return Reach::Stopped(Ending::Filled);
@@ -37,7 +37,7 @@ fn judge<R: QueueRule>(rule: &R, taker: &Taker, left: u64, order: &Order) -> Rea
     if !taker.eligible(rule, order) {
         return Reach::Stopped(Ending::Short);
     }
-    if order.account() == taker.entry.account {
+    if order.account() == taker.numbered.entry.account {
         return Reach::Stopped(Ending::Own);
     }
     if order.lots() <= left {

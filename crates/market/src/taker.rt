@@ -5,15 +5,15 @@ ghost use Rattle.market.specs.Rule.{meets_across};
 ghost use Rattle.market.specs.Walk.{entry_quote};
 ghost use Rattle.std.specs.Prelude.{◌≡◌};
 
+use crate::numbered::Numbered;
 use crate::order::Order;
-use crate::rule::{QueueRule, Quote};
+use crate::rule::QueueRule;
 use clearing::side::Side;
-use dealing::call::{Entry, Kind};
+use dealing::call::Kind;
 
 #[derive(Clone, Copy)]
 pub struct Taker {
-    pub(crate) entry: Entry,
-    pub(crate) number: u32,
+    pub(crate) numbered: Numbered,
     // How far a market entry goes from the first price.
     pub(crate) deviation: u64,
     // The price of the order that stood first in the other queue when the entry came.
@@ -21,22 +21,12 @@ pub struct Taker {
 }
 
 impl Taker {
-    fn quote(&self) -> Quote
-        ensures { result ≡ entry_quote self.now.entry self.now.number }
-    {
-        Quote {
-            side: self.entry.side,
-            price: self.entry.price,
-            number: self.number,
-        }
-    }
-
     fn meets<R: QueueRule>(&self, rule: &R, order: &Order) -> bool
-        ensures { result ≡ meets_across (R.QueueRule.rule rule.now) self.now.entry.side (entry_quote self.now.entry self.now.number) (quote_of order.now) }
+        ensures { result ≡ meets_across (R.QueueRule.rule rule.now) self.now.numbered.entry.side (entry_quote self.now.numbered.entry self.now.numbered.number) (quote_of order.now) }
     {
-        let mine = self.quote();
+        let mine = self.numbered.quote();
         let theirs = order.quote();
-        match self.entry.side {
+        match self.numbered.entry.side {
             Side::Buy => rule.meet(mine, theirs),
             Side::Sell => rule.meet(theirs, mine),
         }
@@ -55,7 +45,7 @@ impl Taker {
     pub(crate) fn eligible<R: QueueRule>(&self, rule: &R, order: &Order) -> bool
         ensures { result ≡ eligible_by (R.QueueRule.rule rule.now) self.now order.now }
     {
-        match self.entry.kind {
+        match self.numbered.entry.kind {
             Kind::Limited => self.meets(rule, order),
             Kind::Market => self.is_near(order.price),
         }

@@ -1,7 +1,6 @@
 -- Each turn is one call more of the run.
-use Rattle.std.proofs.Common.{get_or, take, pos, sym, ap, ◌∙◌, subst, ap₂, subst₂, arith}
-use Rattle.std.proofs.lemmas.List.{take_all, take_more}
-use Rattle.std.proofs.lemmas.Result.{IfOk-from_err}
+use Rattle.std.proofs.Common.{get_or, take, pos, sym, ap, ◌∙◌, ap₂, subst₂, arith}
+use Rattle.std.proofs.lemmas.List.{take_more}
 use Rattle.dealing.specs.declared.call.Call.TheVariants.{Open}
 use Rattle.market.proofs.Runs.{run_on, runs_keep_the_law}
 use Rattle.market.specs.BookState.{state_of}
@@ -21,23 +20,11 @@ lawful g rule = record {
   meeting = g.met.R.QueueRule.meeting rule;
 }
 
-pub returns-in_err-market : goal.returns-in_err-market
-returns-in_err-market g c =
-    let err = c.from_residual.ensures.0 in
-    record {
-      ran = IfOk-from_err c.from_residual.result _ err;
-      settings = IfOk-from_err c.from_residual.result _ err;
-      law = runs_keep_the_law (g.R.QueueRule.rule c.args.rule) (lawful g c.args.rule) (g.C.Centre.own c.args.centre) (g.C.Centre.lines c.args.centre) c.args.calls.now;
-    }
+pub returns-in_err-market-clause-law : goal.returns-in_err-market-clause-law
+returns-in_err-market-clause-law g c = runs_keep_the_law (g.R.QueueRule.rule c.args.rule) (lawful g c.args.rule) (g.C.Centre.own c.args.centre) (g.C.Centre.lines c.args.centre) c.args.calls.now
 
-pub returns-in_err-replies : goal.returns-in_err-replies
-returns-in_err-replies g c =
-    let err = c.from_residual-in_err-replies.ensures.0 in
-    record {
-      ran = IfOk-from_err c.from_residual-in_err-replies.result _ err;
-      settings = IfOk-from_err c.from_residual-in_err-replies.result _ err;
-      law = runs_keep_the_law (g.R.QueueRule.rule c.args.rule) (lawful g c.args.rule) (g.C.Centre.own c.args.centre) (g.C.Centre.lines c.args.centre) c.args.calls.now;
-    }
+pub returns-in_err-replies-clause-law : goal.returns-in_err-replies-clause-law
+returns-in_err-replies-clause-law g c = runs_keep_the_law (g.R.QueueRule.rule c.args.rule) (lawful g c.args.rule) (g.C.Centre.own c.args.centre) (g.C.Centre.lines c.args.centre) c.args.calls.now
 
 pub loop-call-preserved : goal.loop-call-preserved
 loop-call-preserved g c =
@@ -67,17 +54,5 @@ loop-call-preserved g c =
       omega arith,
     )
 
-pub returns : goal.returns
-returns g c =
-    let made = c.in_ok-market.ensures in
-    let inv = c.loop-call.invariant in
-    let rule = made.1 in
-    let centre = made.2 in
-    let end = take_all c.loop-call.call-index c.args.calls.now c.loop-call-test.false in
-    let m = c.in_ok-market.market in
-    let ran = subst (λ cs. IsRun (g.R.QueueRule.rule m.book.rule.rule) (g.C.Centre.own m.centre) (g.C.Centre.lines m.centre) cs (state_of c.loop-call.market.book) (g.C.Centre.lines c.loop-call.market.centre) c.loop-call.replies.items) end inv.0 in
-    record {
-      ran = subst₂ (λ r z. IsRun (g.R.QueueRule.rule r) (g.C.Centre.own z) (g.C.Centre.lines z) c.args.calls.now (state_of c.loop-call.market.book) (g.C.Centre.lines c.loop-call.market.centre) c.loop-call.replies.items) rule centre ran;
-      settings = (ap (λ (x : ByRule g.row.R.Denot). x.rule) inv.1 ∙ rule, inv.2 ∙ ap g.C.Centre.own centre, inv.3 ∙ ap g.C.Centre.depth centre);
-      law = runs_keep_the_law (g.R.QueueRule.rule c.args.rule) (lawful g c.args.rule) (g.C.Centre.own c.args.centre) (g.C.Centre.lines c.args.centre) c.args.calls.now;
-    }
+pub returns-clause-law : goal.returns-clause-law
+returns-clause-law g c = runs_keep_the_law (g.R.QueueRule.rule c.args.rule) (lawful g c.args.rule) (g.C.Centre.own c.args.centre) (g.C.Centre.lines c.args.centre) c.args.calls.now

@@ -4,8 +4,8 @@ use Rattle.market.specs.BookState.{state_of}
 use Rattle.market.specs.Rule.{Lawful}
 use Rattle.market.proofs.market.Market.call.Goals as goal
 
-pub returns : goal.returns
-returns g c =
+pub returns-clause-law : goal.returns-clause-law
+returns-clause-law g c =
     let m = c.args.self.now in
     let rule = m.book.rule.rule in
     let R = g.R.QueueRule.rule rule in
@@ -15,11 +15,4 @@ returns g c =
       decided = g.met.R.QueueRule.decided rule;
       meeting = g.met.R.QueueRule.meeting rule;
     } in
-    let e = c.call.ensures in
-    record {
-      answered = e.answered;
-      law = call_keeps_the_law R lawful (g.C.Centre.own m.centre) (state_of m.book) (g.C.Centre.lines m.centre) c.args.call _ _ _ e.answered;
-      rule = e.rule;
-      settings = e.settings;
-      layers = e.layers;
-    }
+    call_keeps_the_law R lawful (g.C.Centre.own m.centre) (state_of m.book) (g.C.Centre.lines m.centre) c.args.call _ _ _ c.call.ensures.answered
