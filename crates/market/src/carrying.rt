@@ -45,10 +45,7 @@ pub(crate) fn reserve<C: Centre>(centre: &mut C, entry: &Entry, lots: u64) -> Gr
     ensures settings { C.Centre.own centre.new ≡ C.Centre.own centre.old }
     ensures layers { C.Centre.depth centre.new ≡ C.Centre.depth centre.old }
 {
-    match centre.reserve(entry.account, entry.side, lots) {
-        Ok(grant) => grant,
-        Err(_) => unreachable(),
-    }
+    centre.reserve(entry.account, entry.side, lots).unwrap()
 }
 
 // Gives back lots that the account's line holds.
@@ -58,10 +55,7 @@ pub(crate) fn give_back<C: Centre>(centre: &mut C, grant: Grant)
     ensures settings { C.Centre.own centre.new ≡ C.Centre.own centre.old }
     ensures layers { C.Centre.depth centre.new ≡ C.Centre.depth centre.old }
 {
-    match centre.give_back(grant) {
-        Ok(()) => {}
-        Err(_) => unreachable(),
-    }
+    centre.give_back(grant).unwrap();
 }
 
 // Settles lots of a grant that the account's line holds.
@@ -72,10 +66,7 @@ fn settle<C: Centre>(centre: &mut C, grant: Grant, lots: u64) -> Grant
     ensures settings { C.Centre.own centre.new ≡ C.Centre.own centre.old }
     ensures layers { C.Centre.depth centre.new ≡ C.Centre.depth centre.old }
 {
-    match centre.settle(grant, lots) {
-        Ok(rest) => rest,
-        Err(_) => unreachable(),
-    }
+    centre.settle(grant, lots).unwrap()
 }
 
 // One trade with the first order of the other queue. The entry's grant comes back without the lots that traded.

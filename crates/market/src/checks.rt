@@ -52,20 +52,14 @@ pub(crate) fn rest_joins(entry: &Entry, ending: Ending) -> bool
 pub(crate) fn bad_market_terms(entry: &Entry) -> bool
     ensures { result ≡ bad_market_terms entry.now.kind entry.now }
 {
-    match entry.kind {
-        Kind::Limited => false,
-        Kind::Market => queues_rest(entry.rest) || entry.price != 0,
-    }
+    entry.kind == Kind::Market && (queues_rest(entry.rest) || entry.price != 0)
 }
 
 // A limited entry whose price is outside the band.
 pub(crate) fn out_of_band(entry: &Entry, low: i64, high: i64) -> bool
     ensures { result ≡ outside_band entry.now.kind low high entry.now.price }
 {
-    match entry.kind {
-        Kind::Limited => !(low..=high).contains(&entry.price),
-        Kind::Market => false,
-    }
+    entry.kind == Kind::Limited && !(low..=high).contains(&entry.price)
 }
 
 // Lots that an order can be reduced by: at least 1, and fewer than it has left.

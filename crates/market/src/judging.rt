@@ -57,10 +57,8 @@ impl<R: QueueRule> Book<R> {
         requires { self.now.last < 999999 }
         ensures { result ≡ taker_of (state_of self.now) entry }
     {
-        let first = match self.queue(entry.side.other()).as_slice() {
-            [order, ..] => Some(order.price),
-            [] => None,
-        };
+        let theirs = self.queue(entry.side.other()).as_slice();
+        let first = theirs.first().map(|order| order.price);
         let number = self.last + 1;
         Taker {
             numbered: Numbered { entry, number },

@@ -35,10 +35,8 @@ impl Taker {
     fn is_near(&self, price: i64) -> bool
         ensures { result ≡ near_price self.now.deviation self.now.first price }
     {
-        match self.first {
-            Some(first) => price.abs_diff(first) <= self.deviation,
-            None => false,
-        }
+        self.first
+            .is_some_and(|first| price.abs_diff(first) <= self.deviation)
     }
 
     // Whether the entry can trade with a resting order, whoever its owner is.
