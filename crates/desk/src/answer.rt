@@ -6,7 +6,6 @@ ghost use Rattle.dealing.specs.declared.refusal.Refusal.TheVariants.{LineTooShor
 ghost use Rattle.desk.specs.Desk.{Dealt, FitsPage, Shown};
 ghost use Rattle.market.specs.BookState.{state_of};
 ghost use Rattle.market.specs.Calls.{answer as answer-of, done};
-ghost use Rattle.market.specs.Rule.{rule_of};
 ghost use Rattle.page.specs.Command.{read_command};
 ghost use Rattle.page.specs.Phrases.{phrases};
 
@@ -24,13 +23,10 @@ pub const LAST_LINE: u64 = 9_999_999;
 
 // Reads a command line and makes its call. A line that cannot be read leaves the market as it was.
 pub fn deal<R: QueueRule, C: Centre>(market: &mut Market<R, C>, line: &[u8]) -> Reply
-    ensures dealt { Dealt (λ m call n reply. answer-of (rule_of (R.QueueRule.stands m.book.rule.rule) (R.QueueRule.meets m.book.rule.rule)) (C.Centre.own m.centre) (state_of m.book) (C.Centre.lines m.centre) call ≡ done (state_of n.book) (C.Centre.lines n.centre) reply) market.old (read_command line.now) market.new result }
+    ensures dealt { Dealt (λ m call n reply. answer-of (R.QueueRule.rule m.book.rule.rule) (C.Centre.own m.centre) (state_of m.book) (C.Centre.lines m.centre) call ≡ done (state_of n.book) (C.Centre.lines n.centre) reply) market.old (read_command line.now) market.new result }
     ensures refused { (e : AnyRefusal) → read_command line.now ≡ Err e → FitsPage result }
 {
-    match read(line) {
-        Ok(call) => market.call(call),
-        Err(refusal) => Err(refusal),
-    }
+    market.call(read(line)?)
 }
 
 // Answers a command line in the first 86 bytes of `out`. Where these have no room for a line, or the columns none for
@@ -44,7 +40,7 @@ pub fn answer<R: QueueRule, C: Centre>(
 ) -> Result<(), Refusal>
     ensures short { length out.old < 86 → (result ≡ Err LineTooShort) × (out.new ≡ out.old) × (market.new ≡ market.old) }
     ensures over { 86 ≤ length out.old → 9999999 < number → (result ≡ Err NotPrintable) × (out.new ≡ out.old) × (market.new ≡ market.old) }
-    ensures answered { 86 ≤ length out.old → number ≤ 9999999 → ((reply : AnyReply) × Dealt (λ m call n reply. answer-of (rule_of (R.QueueRule.stands m.book.rule.rule) (R.QueueRule.meets m.book.rule.rule)) (C.Centre.own m.centre) (state_of m.book) (C.Centre.lines m.centre) call ≡ done (state_of n.book) (C.Centre.lines n.centre) reply) market.old (read_command line.now) market.new reply × Shown (phrases table.now.rows) number reply out.old out.new result) }
+    ensures answered { 86 ≤ length out.old → number ≤ 9999999 → ((reply : AnyReply) × Dealt (λ m call n reply. answer-of (R.QueueRule.rule m.book.rule.rule) (C.Centre.own m.centre) (state_of m.book) (C.Centre.lines m.centre) call ≡ done (state_of n.book) (C.Centre.lines n.centre) reply) market.old (read_command line.now) market.new reply × Shown (phrases table.now.rows) number reply out.old out.new result) }
     ensures refused { 86 ≤ length out.old → number ≤ 9999999 → (e : AnyRefusal) → read_command line.now ≡ Err e → result ≡ Ok tt }
 {
     if out.len() < LINE {

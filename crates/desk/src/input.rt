@@ -6,13 +6,8 @@ ghost use Rattle.std.specs.Prelude.{◌≡◌};
 pub fn line(read: &[u8]) -> &[u8]
     ensures { result.now ≡ line_of read.now }
 {
-    if read.is_empty() {
-        return read;
-    }
-    let last = read.len() - 1;
-    if read[last] == b'\n' {
-        &read[0..last]
-    } else {
-        read
+    match read {
+        [line @ .., b'\n'] => line,
+        _ => read,
     }
 }

@@ -131,9 +131,6 @@ module _ (e : Entry) (k : ℕ) where
         ap length trades,
       )
 
-  pub still_begins : (el : Order → Bool) (L : Lines) (q : List Order) (G : List Trade) (n : ℕ) → Still el e k L q G n L q G n
-  still_begins el L q G n = record { queue = refl; left = refl; register = refl; lines = refl }
-
   -- where no trade is left to be made, the walk was carried out
   pub still_ends : (el : Order → Bool) (L₀ : Lines) (q₀ : List Order) (G₀ : List Trade) (n₀ : ℕ) (L : Lines) (q : List Order) (G : List Trade) (n : ℕ) → length (walk el e k n q).trades ≡ 0 → Still el e k L₀ q₀ G₀ n₀ L q G n → Carried L₀ q₀ G₀ (walk el e k n₀ q₀) L q G × (n ≡ (walk el e k n₀ q₀).left)
   still_ends el L₀ q₀ G₀ n₀ L q G n none still =
@@ -155,16 +152,6 @@ pub record UnderWay (e : Entry) (k : ℕ) (L₀ : Lines) (q₀ : List Order) (G�
   pub grant : g ≡ grant_of e.account e.side n
   pub room : length G + (T - i) ≤ 512
 
-pub way_begins : (e : Entry) (k : ℕ) (L : Lines) (q : List Order) (G : List Trade) (n T : ℕ) (g : Grant) → Planned L q e k n T → length G + T ≤ 512 → g ≡ grant_of e.account e.side n → UnderWay e k L q G n T 0 L q G n g
-way_begins e k L q G n T g plan room grant =
-    let z : T ≡ T - 0 = omega arith in
-    record {
-      planned = subst (λ r. Planned L q e k n r) z plan;
-      still = λ el c. (still_begins e k el L q G n, sym z ∙ c);
-      grant = grant;
-      room = omega arith;
-    }
-
 module _ (e : Entry) (k : ℕ) (L₀ : Lines) (q₀ : List Order) (G₀ : List Trade) (n₀ T i : ℕ) (L : Lines) (q : List Order) (G : List Trade) (n : ℕ) (g : Grant) (way : UnderWay e k L₀ q₀ G₀ n₀ T i L q G n g) where
   module _ (more : i < T) where
     one_more : T - i ≡ suc (T - (i + 1))
@@ -172,14 +159,6 @@ module _ (e : Entry) (k : ℕ) (L₀ : Lines) (q₀ : List Order) (G₀ : List T
 
     plan : Planned L q e k n (suc (T - (i + 1)))
     plan = subst (λ r. Planned L q e k n r) one_more way.planned
-
-    -- there is an order to trade with
-    pub way_some : 1 ≤ length q
-    way_some =
-        let c = plan.count in
-        let w = walk_step plan.eligible e k n q (omega arith) in
-        let l = ap length w.2 in
-        omega arith
 
     pub way_can : (m : ℕ) → Least q n m → CanTrade L q e.side (party k e.account) m × (m ≤ g.lots)
     way_can m least =

@@ -10,7 +10,6 @@ pub mod Lessening
 pub mod Lowering
 pub mod Namings
 pub mod PlanTables
-pub mod QueueRules
 pub mod QueueTables
 pub mod Refusals
 pub mod Resting

@@ -1,7 +1,7 @@
 -- A walk from order to order, for its plan and for the code that carries it out. Assumes nothing.
 use Rattle.std.proofs.Common.{◌≡◌, ℕ, ◌+◌, ◌-◌, ◌<◌, ◌≤◌, min, Bool, true, false, cond, not, eqb, leb, List, [], ◌∷◌, ◌++◌, length, get_or, drop, sym, refl, ap, ◌∙◌, subst, arith}
 use mathlib.Core.Path.{fun_ext}
-use Rattle.std.proofs.lemmas.List.{drop_all, drop_more}
+use Rattle.std.proofs.lemmas.List.{drop_more}
 use Rattle.std.proofs.lemmas.Bool.{cond_both, cond-false, cond-true, eqb-false, le-leb, leb-false, leb-true, lt-leb, not-false}
 use Rattle.ordered.specs.Key.{eq_z}
 use Rattle.ordered.proofs.Keys.{eq_z_false}
@@ -9,11 +9,9 @@ use Rattle.dealing.specs.declared.call.Entry.{Entry}
 use Rattle.dealing.specs.declared.call.Kind.{Kind}
 use Rattle.dealing.specs.declared.call.Kind.TheVariants.{Limited, Market}
 use Rattle.market.proofs.Walking.{walk_induction}
-use Rattle.market.specs.Calls.{out_of_band}
 use Rattle.market.specs.Order.{account_of, left_of, lots_of, lowered, party, trade_of}
-use Rattle.market.specs.PlanTable.{eligible_as, eligible_by, first_price, near_price, outside_band, reach_of, walk_by}
+use Rattle.market.specs.PlanTable.{eligible_as, eligible_by, first_price, near_price, reach_of, walk_by}
 use Rattle.market.specs.Rule.{Rule}
-use Rattle.market.specs.State.{State}
 use Rattle.market.specs.Walk.{Walked, after_trade, eligible_for, near_first, walk, walked}
 use Rattle.market.specs.declared.ending.Ending.{Ending}
 use Rattle.market.specs.declared.ending.Ending.TheVariants.{Filled as filled, Own as own, Short as short}
@@ -25,26 +23,21 @@ use Rattle.market.specs.declared.trade.Trade.{Trade}
 
 -- The tests by what they read
 
--- the band of a state
-pub outside_same : (x : Kind) (e : Entry) (S : State) → outside_band x S.low S.high e.price ≡ out_of_band x e S
-outside_same Limited e S = refl
-outside_same Market e S = refl
-
 near_same : (d : ℕ) (q : List Order) (o : Order) → near_price d (first_price q) o.price ≡ near_first d q o
 near_same d [] o = refl
 near_same d (head ∷ q) o = refl
 
-kind_same : (x : Kind) (R : Rule) (t : Taker) (q : List Order) (o : Order) → t.first ≡ first_price q → eligible_as x R t o ≡ eligible_for x R t.deviation t.number q t.entry o
+kind_same : (x : Kind) (R : Rule) (t : Taker) (q : List Order) (o : Order) → t.first ≡ first_price q → eligible_as x R t o ≡ eligible_for x R t.deviation t.numbered.number q t.numbered.entry o
 kind_same Limited R t q o h = refl
 kind_same Market R t q o h = ap (λ first. near_price t.deviation first o.price) h ∙ near_same t.deviation q o
 
 -- a taker that knows the first price of a queue tells which of its orders are eligible
-pub eligible_same : (R : Rule) (t : Taker) (q : List Order) (o : Order) → t.first ≡ first_price q → eligible_by R t o ≡ eligible_for t.entry.kind R t.deviation t.number q t.entry o
-eligible_same R t q o h = kind_same t.entry.kind R t q o h
+pub eligible_same : (R : Rule) (t : Taker) (q : List Order) (o : Order) → t.first ≡ first_price q → eligible_by R t o ≡ eligible_for t.numbered.entry.kind R t.deviation t.numbered.number q t.numbered.entry o
+eligible_same R t q o h = kind_same t.numbered.entry.kind R t q o h
 
 -- and so walks as the entry does
-pub walk_same : (R : Rule) (t : Taker) (q : List Order) → t.first ≡ first_price q → (n : ℕ) (p : List Order) → walk_by R t n p ≡ walk (eligible_for t.entry.kind R t.deviation t.number q t.entry) t.entry t.number n p
-walk_same R t q h n p = ap (λ eligible. walk eligible t.entry t.number n p) (fun_ext (λ o. eligible_same R t q o h))
+pub walk_same : (R : Rule) (t : Taker) (q : List Order) → t.first ≡ first_price q → (n : ℕ) (p : List Order) → walk_by R t n p ≡ walk (eligible_for t.numbered.entry.kind R t.deviation t.numbered.number q t.numbered.entry) t.numbered.entry t.numbered.number n p
+walk_same R t q h n p = ap (λ eligible. walk eligible t.numbered.entry t.numbered.number n p) (fun_ext (λ o. eligible_same R t q o h))
 
 -- A walk from one order to the next
 
@@ -150,24 +143,15 @@ module _ (R : Rule) (t : Taker) (lots n : ℕ) (q : List Order) (i : ℕ) (on : 
   w = walk_by R t lots q
 
   -- what is left of the walk is what it makes of the order at the place
-  at_place : (d : Order) (r : Reach) → i < length q → r ≡ reach_of (eligible_by R t) t.entry n (get_or q i d) → Onward w i (reached (eligible_by R t) t.entry t.number r n (get_or q i d) (drop (i + 1) q))
-  at_place d r h at = subst (Onward w i) (walk_from (eligible_by R t) t.entry t.number n q i d r h at) on
+  at_place : (d : Order) (r : Reach) → i < length q → r ≡ reach_of (eligible_by R t) t.numbered.entry n (get_or q i d) → Onward w i (reached (eligible_by R t) t.numbered.entry t.numbered.number r n (get_or q i d) (drop (i + 1) q))
+  at_place d r h at = subst (Onward w i) (walk_from (eligible_by R t) t.numbered.entry t.numbered.number n q i d r h at) on
 
   -- an order that is used up makes one trade
-  pub onward_used : (d : Order) → i < length q → UsedUp ≡ reach_of (eligible_by R t) t.entry n (get_or q i d) → Onward w (i + 1) (walk_by R t (n - lots_of (get_or q i d)) (drop (i + 1) q))
+  pub onward_used : (d : Order) → i < length q → UsedUp ≡ reach_of (eligible_by R t) t.numbered.entry n (get_or q i d) → Onward w (i + 1) (walk_by R t (n - lots_of (get_or q i d)) (drop (i + 1) q))
   onward_used d h at =
       let s = at_place d UsedUp h at in
       record { ending = s.ending; left = s.left; trades = omega (arith, s.trades) }
 
-  -- the walk ends in an order
-  pub onward_partly : (d : Order) → i < length q → Partly ≡ reach_of (eligible_by R t) t.entry n (get_or q i d) → (filled ≡ w.ending) × (0 ≡ w.left) × (i + 1 ≡ length w.trades)
-  onward_partly d h at = let s = at_place d Partly h at in (sym s.ending, sym s.left, omega (arith, s.trades))
-
-  -- or before it
-  pub onward_stopped : (d : Order) (x : Ending) → i < length q → Stopped x ≡ reach_of (eligible_by R t) t.entry n (get_or q i d) → (x ≡ w.ending) × (n ≡ w.left) × (i ≡ length w.trades)
+  -- the walk ends before an order
+  pub onward_stopped : (d : Order) (x : Ending) → i < length q → Stopped x ≡ reach_of (eligible_by R t) t.numbered.entry n (get_or q i d) → (x ≡ w.ending) × (n ≡ w.left) × (i ≡ length w.trades)
   onward_stopped d x h at = let s = at_place d (Stopped x) h at in (sym s.ending, sym s.left, omega (arith, s.trades))
-
-  -- or behind the last one
-  pub onward_over : length q ≤ i → i ≤ length q → (cond (eqb n 0) filled short ≡ w.ending) × (n ≡ w.left) × (length q ≡ length w.trades)
-  onward_over h h' =
-      let s = subst (λ l. Onward w i (walk_by R t n l)) (drop_all i q h) on in (sym s.ending, sym s.left, omega (arith, s.trades))

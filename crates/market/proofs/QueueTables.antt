@@ -1,20 +1,11 @@
 -- What the orders of a queue say, one place at a time. Assumes nothing.
-use Rattle.std.proofs.Common.{◌≡◌, ℕ, zero, suc, ◌+◌, ◌-◌, ◌<◌, ◌≤◌, Bool, true, false, cond, eqb, leb, List, [], ◌∷◌, ◌++◌, length, get_or, drop, set, ℤ, pos, Some, vec_len, vec_capacity, Vec, sym, refl, ap, ◌∙◌, inl, inr, arith}
-use native.Mathlib.Bridge.{le_prop}
-use Rattle.std.specs.declared.alloc.Global.{Global}
-use Rattle.std.proofs.lemmas.List.{at_drop_more}
+use Rattle.std.proofs.Common.{◌≡◌, ℕ, zero, suc, ◌-◌, ◌<◌, Bool, true, false, cond, eqb, leb, List, [], ◌∷◌, ◌++◌, length, get_or, set, pos, Some, sym, refl, ap, ◌∙◌, inl, inr, arith}
 use Rattle.std.proofs.lemmas.Bool.{cases_Bool, cond-false, cond-true, eq-eqb, leb-false, leb-true, ne_eqb}
-use Rattle.ordered.specs.Key.{eq_z}
 use Rattle.ordered.specs.Row.{Found}
 use Rattle.clearing.specs.declared.side.Side.TheVariants.{Buy}
-use Rattle.market.specs.Order.{account_of, lots_of, lots_resting, lower, lowered, order_of}
+use Rattle.market.specs.Order.{lots_of, lower, lowered, order_of}
 use Rattle.market.specs.QueueTable.{cleared_at, lowered_at}
 use Rattle.market.specs.declared.order.Order.{Order}
-use Rattle.market.specs.declared.queue.Queue.{Queue}
-
--- each bound of a queue has one proof at most
-pub same_queue : (v : Vec Order Global) (few few' : vec_len v ≤ 64) (room room' : 64 ≤ vec_capacity v) → ◌≡◌ {A = Queue} (record { orders = v; few = few; room = room }) (record { orders = v; few = few'; room = room' })
-same_queue v few few' room room' k = record { orders = v; few = le_prop few few' k; room = le_prop room room' k }
 
 -- the order that is found by its number is the one that is lowered
 pub lower_found : (q : List Order) (k : ℕ) (i : ℕ) (n : ℕ) → Found (λ o. pos o.number) q (pos k) (Some i) → lower k n q ≡ lowered_at i n q
@@ -54,18 +45,3 @@ lowered_at_is (o ∷ q) (suc i) n h =
 -- the same in two steps, from q to r and from r to s
 pub lowered_then_cleared : (q r s : List Order) (i n : ℕ) → i < length q → r ≡ set q i (lowered (get_or q i any_order) n) → s ≡ cleared_at i any_order r → s ≡ lowered_at i n q
 lowered_then_cleared q r s i n h is left = left ∙ ap (cleared_at i any_order) is ∙ lowered_at_is q i n h
-
--- the lots of the orders from i on, where the one at i is of the account
-module _ (q : List Order) (i : ℕ) (a : ℤ) (d : Order) (z : ℤ) (within : i < length q) (is : z ≡ account_of (get_or q i d)) where
-  pub resting_more : (n : ℕ) → eq_z z a ≡ true → n ≡ lots_of (get_or q i d) → lots_resting a (drop i q) ≡ n + lots_resting a (drop (i + 1) q)
-  resting_more n t lots =
-      let e = at_drop_more (lots_resting a) q i d within in
-      let own = cond-true (eq_z (account_of (get_or q i d)) a) (lots_of (get_or q i d)) 0 (ap (λ x. eq_z x a) (sym is) ∙ t) in
-      omega arith
-
-  -- and where it is of another one
-  pub resting_same : eq_z z a ≡ false → lots_resting a (drop i q) ≡ lots_resting a (drop (i + 1) q)
-  resting_same f =
-      let e = at_drop_more (lots_resting a) q i d within in
-      let other = cond-false (eq_z (account_of (get_or q i d)) a) (lots_of (get_or q i d)) 0 (ap (λ x. eq_z x a) (sym is) ∙ f) in
-      omega arith

@@ -1,47 +1,34 @@
 -- The refusals of an entry, stage by stage. Assumes nothing.
-use Rattle.std.proofs.Common.{◌≡◌, ℕ, zero, suc, ◌+◌, ◌<◌, ◌≤◌, Bool, true, false, cond, ◌||◌, List, [], ◌∷◌, ◌++◌, length, get_or, take, Some, None, Ok, Err, Option, sym, refl, ap, ◌∙◌, ap₂, suc-le-suc, zero-le, arith}
-use Rattle.std.proofs.lemmas.List.{take_more}
-use Rattle.std.proofs.lemmas.Bool.{cond-false, cond-true, or_from, or_left, or_parts, or_right}
+use Rattle.std.proofs.Common.{◌≡◌, ℕ, suc, ◌≤◌, Bool, true, false, cond, ◌||◌, List, [], ◌∷◌, ◌++◌, length, take, Some, None, Ok, Err, Option, Result, sym, refl, ap, ◌∙◌, ap₂, suc-le-suc, zero-le, arith}
+use Rattle.std.proofs.lemmas.Bool.{cond-false, cond-true}
+use Rattle.std.specs.Result.{MatchResult}
+use Rattle.std.proofs.lemmas.Result.{MatchResult-at_err, MatchResult-at_ok}
 use Rattle.clearing.specs.Centre.{Lines, Own, answered, verdict}
 use Rattle.clearing.specs.Side.{other}
 use Rattle.clearing.specs.declared.cause.Denial.{Denial}
 use Rattle.clearing.specs.declared.side.Side.{Side}
-use Rattle.clearing.specs.declared.side.Side.TheVariants.{Buy, Sell}
 use Rattle.dealing.specs.declared.call.Entry.{Entry}
 use Rattle.dealing.specs.declared.refusal.Refusal.{Refusal}
 use Rattle.dealing.specs.declared.refusal.Refusal.TheVariants.{CentreDenies, OutOfStep}
 use Rattle.market.proofs.Carried.{trade_other}
 use Rattle.market.proofs.Walking.{walk_induction}
-use Rattle.market.specs.BookState.{Plans, orders_out_of_step, state_of}
-use Rattle.market.specs.Calls.{Check, centre_denies, check, entry_lots, entry_refusal, first_of, or_else, out_of_step, terms_checks, trades_out_of_step, walk_checks, walk_of}
-use Rattle.market.specs.Order.{account_of, lots_of, party}
+use Rattle.market.specs.BookState.{Plans, orders_out_of_step}
+use Rattle.market.specs.Calls.{Check, allowed, centre_denies, check, entry_lots, entry_refusal, first_of, or_else, out_of_step, terms_checks, trades_out_of_step, walk_checks, walk_of}
+use Rattle.market.specs.Order.{lots_of, party}
 use Rattle.market.specs.Rule.{Rule}
 use Rattle.market.specs.State.{State, queue_of}
 use Rattle.market.specs.Walk.{Walked, eligible_for, walk}
-use Rattle.market.specs.declared.book.Book.{Book}
 use Rattle.market.specs.declared.order.Order.{Order}
 use Rattle.market.specs.declared.plan.Plan.{Plan}
 
--- Orders out of step
+-- what a check answers is its part of the refusals
+pub allowed_no : (o : Option Refusal) (r : Refusal) → allowed o ≡ Err r → Some r ≡ o
+allowed_no None r e = absurd (let z : ◌≡◌ {A = ℕ} 0 1 = cc in omega arith)
+allowed_no (Some q) r e = cc
 
-module _ (S : State) (L : Lines) (s : Side) where
-  none_out_on : (xs ys : List Order) → orders_out_of_step S L s xs ≡ false → orders_out_of_step S L s ys ≡ false → orders_out_of_step S L s (xs ++ ys) ≡ false
-  none_out_on [] ys e f = f
-  none_out_on (x ∷ xs) ys e f =
-      let both = or_parts (out_of_step S L (account_of x) s) _ e in
-      or_from _ _ both.0 (none_out_on xs ys both.1 f)
-
-  -- one order more that is in step
-  pub none_out_more : (q : List Order) (i : ℕ) (d : Order) → i < length q → orders_out_of_step S L s (take i q) ≡ false → out_of_step S L (account_of (get_or q i d)) s ≡ false → orders_out_of_step S L s (take (i + 1) q) ≡ false
-  none_out_more q i d h e f =
-      ap (orders_out_of_step S L s) (take_more q i d h) ∙ none_out_on (take i q) (get_or q i d ∷ []) e (or_from _ _ f refl)
-
-  -- an order that is not
-  pub one_out : (q : List Order) (i n : ℕ) (d : Order) → i < n → i < length q → out_of_step S L (account_of (get_or q i d)) s ≡ true → orders_out_of_step S L s (take n q) ≡ true
-  one_out [] i n d h k e = absurd (omega arith)
-  one_out (x ∷ q) i zero d h k e = absurd (omega arith)
-  one_out (x ∷ q) zero (suc n) d h k e = or_left _ _ e
-  one_out (x ∷ q) (suc i) (suc n) d h k e = or_right (out_of_step S L (account_of x) s) _ (one_out q i n d (omega arith) (omega arith) e)
+pub allowed_yes : (o : Option Refusal) (x : Unit {0}) → allowed o ≡ Ok x → None ≡ o
+allowed_yes None x e = refl
+allowed_yes (Some q) x e = absurd (let z : ◌≡◌ {A = ℕ} 0 1 = cc in omega arith)
 
 -- the orders that a walk trades with are the first ones, one for each trade
 pub same_orders : (S : State) (L : Lines) (eligible : Order → Bool) (e : Entry) (k n : ℕ) (q : List Order) → let w = walk eligible e k n q in trades_out_of_step S L (other e.side) w.trades ≡ orders_out_of_step S L (other e.side) (take (length w.trades) q)
@@ -116,18 +103,9 @@ module _ (C : Own) (S : State) (L : Lines) (e : Entry) (w : Walked) where
       by_centre t = after_walk ∙ ap (λ o. or_else o judged) (cond-false _ _ _ t)
 
 -- what the centre answers is its part of the refusals
-pub answered_yes : (v : Option Denial) (x : Unit {0}) → Ok x ≡ answered v → centre_denies v ≡ None
-answered_yes None x e = refl
-answered_yes (Some d) x e = absurd (let z : ◌≡◌ {A = ℕ} 0 1 = cc in omega arith)
-
-pub answered_no : (v : Option Denial) (d : Denial) → Err d ≡ answered v → centre_denies v ≡ Some (CentreDenies d)
-answered_no None d e = absurd (let z : ◌≡◌ {A = ℕ} 0 1 = cc in omega arith)
-answered_no (Some d') d e = let same : d ≡ d' = cc in ap (λ x. Some (CentreDenies x)) (sym same)
-
--- a queue of a book has at most 64 orders
-pub queue_few : {R : Type 0} (b : Book R) (s : Side) → length (queue_of s (state_of b)) ≤ 64
-queue_few b Buy = omega (arith, b.buys.few, b.buys.orders.ok.0)
-queue_few b Sell = omega (arith, b.sells.few, b.sells.orders.ok.0)
+pub centre_part : (v : Option Denial) (q : Result (Unit {0}) Denial) (m : Result (Unit {0}) Refusal) → q ≡ answered v → MatchResult q (λ x. m ≡ Ok x) (λ d. m ≡ Err (CentreDenies d)) → m ≡ allowed (centre_denies v)
+centre_part None q m e cases = MatchResult-at_ok _ _ tt e cases
+centre_part (Some d) q m e cases = MatchResult-at_err _ _ d e cases
 
 -- the orders that were looked at are those that the planned walk trades with
 pub plan_lines : (R : Rule) (S : State) (L : Lines) (e : Entry) (p : Plan) → Plans p (walk_of R S e) → (z : Side) → z ≡ other e.side → (b : Bool) → b ≡ orders_out_of_step S L z (take p.trades (queue_of z S)) → trades_out_of_step S L (other e.side) (walk_of R S e).trades ≡ b
@@ -136,12 +114,10 @@ plan_lines R S L e p plans z same b out =
     ∙ ap₂ (λ x n. orders_out_of_step S L x (take n (queue_of x S))) (sym same) (sym plans.trades)
     ∙ sym out
 
--- a planned walk makes at most 64 trades
-pub plan_few : {X : Type 0} (R : Rule) (b : Book X) (e : Entry) (p : Plan) → Plans p (walk_of R (state_of b) e) → p.trades ≤ 64
-plan_few R b e p plans =
-    let S = state_of b in
+-- a planned walk makes no more trades than the other queue has orders
+pub plan_few : (R : Rule) (S : State) (e : Entry) (p : Plan) → Plans p (walk_of R S e) → p.trades ≤ length (queue_of (other e.side) S)
+plan_few R S e p plans =
     let q = queue_of (other e.side) S in
     let few = few_trades (eligible_for e.kind R S.deviation (suc S.last) q e) e (suc S.last) (entry_lots e) q in
-    let all = queue_few b (other e.side) in
     let t = plans.trades in
     omega arith

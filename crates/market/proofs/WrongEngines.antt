@@ -1,11 +1,11 @@
 -- What three wrong engines would answer breaks the law. Assumes nothing.
-use Rattle.std.proofs.Common.{[], ◌∷◌, pos, sym, refl, ap, subst, arith, lit≤}
+use Rattle.std.proofs.Common.{[], ◌∷◌, pos, sym, refl, subst, arith, lit≤}
 use Rattle.std.proofs.lemmas.Bool.{true≢false}
 use Rattle.clearing.specs.declared.side.Side.TheVariants.{Buy, Sell}
 use Rattle.market.proofs.Counts.{queued_at_least}
-use Rattle.market.specs.Law.{Rests, events_of, lots_registered}
+use Rattle.market.specs.Law.{Rests, events_of}
 use Rattle.market.specs.Order.{order_of}
-use Rattle.market.specs.Wrong.{HeadOnlyIsRefused, IdleCentreIsRefused, InventedLotsAreRefused, first_trade, head_only, inventing}
+use Rattle.market.specs.Wrong.{HeadOnlyIsRefused, InventedLotsAreRefused, first_trade, head_only, inventing}
 use Rattle.market.specs.declared.order.Order.{Order}
 
 -- the buy that was put to rest, and the sell that it meets
@@ -19,14 +19,6 @@ pub head_only_is_refused : HeadOnlyIsRefused
 head_only_is_refused S L same tt law =
     let at : (o : Order) → Rests (events_of head_only) (first_trade ∷ []) o → Rests (events_of head_only) S.register o = λ o r. subst (λ G. Rests (events_of head_only) G o) (sym same) r in
     true≢false (law.uncrossed _ _ ((law.queues Buy).all _ (at _ bought) refl) ((law.queues Sell).all _ (at _ sold) refl))
-
-pub idle_centre_is_refused : IdleCentreIsRefused
-idle_centre_is_refused S L same none law =
-    let b = law.balanced (pos 101) Sell in
-    let x = b.sums in
-    let y = b.held in
-    let z = ap (λ G. lots_registered G (pos 101) Sell) same in
-    omega arith
 
 -- the order of which lots are said to be taken off
 offered : Rests (events_of inventing) [] (order_of (pos 101) Sell 1 (pos 7000) 10)

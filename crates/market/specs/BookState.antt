@@ -1,5 +1,6 @@
 -- A book as a state of the market, and what its parts are asked. Assumes nothing.
-use Rattle.std.specs.Prelude.{◌≡◌, ℕ, suc, ◌-◌, Bool, false, cond, ◌||◌, List, [], ◌∷◌, length, Some, None, Ok, Err, vec_items, Result, ◌==◌}
+use Rattle.std.specs.Prelude.{◌≡◌, ℕ, suc, ◌-◌, Bool, cond, List, length, Some, None, Ok, Err, Result, ◌==◌}
+use Rattle.std.specs.List.{list_any}
 use Rattle.clearing.specs.Centre.{Lines, Own}
 use Rattle.clearing.specs.Side.{other}
 use Rattle.clearing.specs.declared.side.Side.{Side}
@@ -25,14 +26,14 @@ state_of b = record {
   high = b.sitting.high;
   deviation = b.sitting.deviation;
   last = b.last;
-  buys = vec_items b.buys.orders;
-  sells = vec_items b.sells.orders;
-  register = vec_items b.register.trades;
+  buys = b.buys.orders;
+  sells = b.sells.orders;
+  register = b.register;
 }
 
 -- what an entry brings to its walk, under the next number
 abbrev pub taker_of : State → Entry → Taker
-taker_of S e = record { entry = e; number = suc S.last; deviation = S.deviation; first = first_price (queue_of (other e.side) S) }
+taker_of S e = record { numbered = record { entry = e; number = suc S.last }; deviation = S.deviation; first = first_price (queue_of (other e.side) S) }
 
 -- a plan tells how a walk ends, the lots that are left and how many trades are made
 pub record Plans (p : Plan) (w : Walked) : Type 0 where
@@ -42,8 +43,7 @@ pub record Plans (p : Plan) (w : Walked) : Type 0 where
 
 -- one of the orders of a list is out of step
 abbrev pub orders_out_of_step : State → Lines → Side → List Order → Bool
-orders_out_of_step S L s [] = false
-orders_out_of_step S L s (o ∷ q) = out_of_step S L (account_of o) s || orders_out_of_step S L s q
+orders_out_of_step S L s q = list_any (λ o. out_of_step S L (account_of o) s) q
 
 -- an entry is judged: it is refused, or its walk is planned
 abbrev pub Judged : Rule → Own → State → Lines → Entry → Result Plan Refusal → Type 0

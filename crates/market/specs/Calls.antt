@@ -1,6 +1,6 @@
 -- What each of the six calls answers and leaves, as a function of the state, the centre's lines, the queue rule and the
 -- centre's own rule. Assumes nothing.
-use Rattle.std.specs.Prelude.{ℕ, suc, ◌+◌, ◌-◌, Bool, true, false, cond, not, ◌&&◌, ◌||◌, List, [], ◌∷◌, ◌++◌, length, ℤ, pos, negsuc, Some, None, Ok, Err, Option, ◌==◌, int_le, nat_le, nat_lt, unsigned_abs}
+use Rattle.std.specs.Prelude.{ℕ, suc, ◌+◌, ◌-◌, Bool, true, false, cond, not, ◌&&◌, ◌||◌, List, [], ◌∷◌, ◌++◌, length, ℤ, pos, negsuc, Some, None, Ok, Err, Option, Result, ◌==◌, int_le, nat_le, nat_lt, unsigned_abs}
 use Rattle.ordered.specs.Key.{eq_z}
 use Rattle.clearing.specs.Centre.{Lines, Own, adjusted, holds, verdict}
 use Rattle.clearing.specs.Line.{hold, lots_max, release, settle}
@@ -53,6 +53,11 @@ check b r = record { fails = b; refusal = r }
 abbrev pub first_of : List Check → Option Refusal
 first_of [] = None
 first_of (c ∷ cs) = cond c.fails (Some c.refusal) (first_of cs)
+
+-- yes where there is no refusal
+abbrev pub allowed : Option Refusal → Result (Unit {0}) Refusal
+allowed None = Ok tt
+allowed (Some r) = Err r
 
 -- a refused call changes nothing
 abbrev pub unless : Option Refusal → State → Lines → Done → Done

@@ -34,16 +34,16 @@ near_price d None p = false
 near_price d (Some first) p = nat_le (unsigned_abs (p -ℤ first)) d
 
 abbrev pub eligible_as : Kind → Rule → Taker → Order → Bool
-eligible_as Limited R t o = meets_across R t.entry.side (entry_quote t.entry t.number) (quote_of o)
+eligible_as Limited R t o = meets_across R t.numbered.entry.side (entry_quote t.numbered.entry t.numbered.number) (quote_of o)
 eligible_as Market R t o = near_price t.deviation t.first o.price
 
 -- whether a resting order is eligible, by what the taker knows
 abbrev pub eligible_by : Rule → Taker → Order → Bool
-eligible_by R t o = eligible_as t.entry.kind R t o
+eligible_by R t o = eligible_as t.numbered.entry.kind R t o
 
 -- the walk of a taker with n lots left
 abbrev pub walk_by : Rule → Taker → ℕ → List Order → Walked
-walk_by R t n q = walk (eligible_by R t) t.entry t.number n q
+walk_by R t n q = walk (eligible_by R t) t.numbered.entry t.numbered.number n q
 
 -- what a walk with n lots left comes to at an order
 abbrev pub reach_of : (Order → Bool) → Entry → ℕ → Order → Reach

@@ -18,6 +18,6 @@ pub struct Book<R> {
     pub(crate) buys: Queue,
     pub(crate) sells: Queue,
     pub(crate) register: Register,
-    ghost bought: { all_on Buy buys.orders.items ≡ true },
-    ghost sold: { all_on Sell sells.orders.items ≡ true },
+    ghost bought: { all_on Buy buys.orders ≡ true },
+    ghost sold: { all_on Sell sells.orders ≡ true },
 }

@@ -7,6 +7,7 @@ ghost use Rattle.clearing.specs.Line.{hold as held_line, release as released_lin
 ghost use Rattle.market.specs.Carry.{CanTrade, CarriedOut, Least, Planned, TradedFirst};
 ghost use Rattle.market.specs.Order.{party, trade_of};
 
+use crate::numbered::Numbered;
 use crate::order::Order;
 use crate::queue::Queue;
 use crate::register::Register;
@@ -44,10 +45,7 @@ pub(crate) fn reserve<C: Centre>(centre: &mut C, entry: &Entry, lots: u64) -> Gr
     ensures settings { C.Centre.own centre.new ≡ C.Centre.own centre.old }
     ensures layers { C.Centre.depth centre.new ≡ C.Centre.depth centre.old }
 {
-    match centre.reserve(entry.account, entry.side, lots) {
-        Ok(grant) => grant,
-        Err(_) => unreachable(),
-    }
+    centre.reserve(entry.account, entry.side, lots).unwrap()
 }
 
 // Gives back lots that the account's line holds.
@@ -57,10 +55,7 @@ pub(crate) fn give_back<C: Centre>(centre: &mut C, grant: Grant)
     ensures settings { C.Centre.own centre.new ≡ C.Centre.own centre.old }
     ensures layers { C.Centre.depth centre.new ≡ C.Centre.depth centre.old }
 {
-    match centre.give_back(grant) {
-        Ok(()) => {}
-        Err(_) => unreachable(),
-    }
+    centre.give_back(grant).unwrap();
 }
 
 // Settles lots of a grant that the account's line holds.
@@ -71,10 +66,7 @@ fn settle<C: Centre>(centre: &mut C, grant: Grant, lots: u64) -> Grant
     ensures settings { C.Centre.own centre.new ≡ C.Centre.own centre.old }
     ensures layers { C.Centre.depth centre.new ≡ C.Centre.depth centre.old }
 {
-    match centre.settle(grant, lots) {
-        Ok(rest) => rest,
-        Err(_) => unreachable(),
-    }
+    centre.settle(grant, lots).unwrap()
 }
 
 // One trade with the first order of the other queue. The entry's grant comes back without the lots that traded.
@@ -87,12 +79,12 @@ fn trade_first<C: Centre>(
     grant: Grant,
     lots: u64,
 ) -> Grant
-    requires room { length register.old.trades.items < 512 }
+    requires room { length register.old < 512 }
     requires account { grant.account ≡ me.account }
     requires side { grant.side ≡ side }
     requires lots { lots ≤ grant.lots }
-    requires can { CanTrade (C.Centre.lines centre.old) theirs.old.orders.items side me lots }
-    ensures traded { TradedFirst side me lots (C.Centre.lines centre.old) theirs.old.orders.items register.old.trades.items (C.Centre.lines centre.new) theirs.new.orders.items register.new.trades.items }
+    requires can { CanTrade (C.Centre.lines centre.old) theirs.old.orders side me lots }
+    ensures traded { TradedFirst side me lots (C.Centre.lines centre.old) theirs.old.orders register.old (C.Centre.lines centre.new) theirs.new.orders register.new }
     ensures grant { result ≡ grant_of me.account side (grant.lots - lots) }
     ensures settings { C.Centre.own centre.new ≡ C.Centre.own centre.old }
     ensures layers { C.Centre.depth centre.new ≡ C.Centre.depth centre.old }
@@ -107,8 +99,8 @@ fn trade_first<C: Centre>(
 
 // The lots of the first order of a queue, or so many as are asked for.
 fn first_lots(theirs: &Queue, lots: u64) -> u64
-    requires { 1 ≤ length theirs.now.orders.items }
-    ensures { Least theirs.now.orders.items lots result }
+    requires { 1 ≤ length theirs.now.orders }
+    ensures { Least theirs.now.orders lots result }
 {
     lots.min(theirs.as_slice()[0].lots())
 }
@@ -118,29 +110,25 @@ pub(crate) fn trade_on<C: Centre>(
     theirs: &mut Queue,
     register: &mut Register,
     centre: &mut C,
-    entry: &Entry,
-    number: u32,
+    numbered: &Numbered,
     grant: Grant,
     lots: u64,
     trades: usize,
 ) -> Grant
-    requires room { length register.old.trades.items + trades ≤ 512 }
-    requires grant { grant ≡ grant_of entry.now.account entry.now.side lots }
-    requires planned { Planned (C.Centre.lines centre.old) theirs.old.orders.items entry.now number lots trades }
-    ensures carried { CarriedOut entry.now number lots trades (C.Centre.lines centre.old) theirs.old.orders.items register.old.trades.items (C.Centre.lines centre.new) theirs.new.orders.items register.new.trades.items result }
-    ensures held { holds (C.Centre.lines centre.new entry.now.account) entry.now.side result.lots ≡ true }
+    requires room { length register.old + trades ≤ 512 }
+    requires grant { grant ≡ grant_of numbered.now.entry.account numbered.now.entry.side lots }
+    requires planned { Planned (C.Centre.lines centre.old) theirs.old.orders numbered.now.entry numbered.now.number lots trades }
+    ensures carried { CarriedOut numbered.now.entry numbered.now.number lots trades (C.Centre.lines centre.old) theirs.old.orders register.old (C.Centre.lines centre.new) theirs.new.orders register.new result }
+    ensures held { holds (C.Centre.lines centre.new numbered.now.entry.account) numbered.now.entry.side result.lots ≡ true }
     ensures settings { C.Centre.own centre.new ≡ C.Centre.own centre.old }
     ensures layers { C.Centre.depth centre.new ≡ C.Centre.depth centre.old }
 {
-    let me = Party {
-        number,
-        account: entry.account,
-    };
+    let me = numbered.party();
     let mut rest = grant;
     let mut left = lots;
     for _i in 0..trades {
         let n = first_lots(theirs, left);
-        rest = trade_first(theirs, register, centre, entry.side, me, rest, n);
+        rest = trade_first(theirs, register, centre, numbered.entry.side, me, rest, n);
         left -= n;
     }
     rest

@@ -7,13 +7,13 @@ ghost use Rattle.market.specs.BookState.{Judged, entry_outcome, state_of};
 ghost use Rattle.market.specs.Calls.{done, enter as enter-result, entered, entry_lots, rest_joins, walk_of};
 ghost use Rattle.market.specs.Carry.{EnteredBook, Planned};
 ghost use Rattle.market.specs.Order.{joined, order_of};
-ghost use Rattle.market.specs.Rule.{rule_of};
 ghost use Rattle.market.specs.State.{is_trading};
 
 use crate::book::Book;
 use crate::carrying::{give_back, reserve, trade_on};
 use crate::checks::{entry_lots, rest_joins};
 use crate::ending::Ending;
+use crate::numbered::Numbered;
 use crate::order::Order;
 use crate::plan::Plan;
 use crate::queue::Queue;
@@ -32,24 +32,23 @@ fn leave_rest<R: QueueRule, C: Centre>(
     rule: &ByRule<R>,
     mine: &mut Queue,
     centre: &mut C,
-    entry: &Entry,
-    number: u32,
+    numbered: &Numbered,
     rest: Grant,
     ending: Ending,
 )
-    requires room { rest_joins entry.now ending ≡ true → length mine.old.orders.items < 64 }
-    requires account { rest.account ≡ entry.now.account }
-    requires side { rest.side ≡ entry.now.side }
-    requires held { holds (C.Centre.lines centre.old entry.now.account) entry.now.side rest.lots ≡ true }
-    ensures queue { mine.new.orders.items ≡ (if rest_joins entry.now ending then joined (rule_of (R.QueueRule.stands rule.now.rule) (R.QueueRule.meets rule.now.rule)) (order_of entry.now.account entry.now.side number entry.now.price rest.lots) mine.old.orders.items else mine.old.orders.items) }
-    ensures lines { C.Centre.lines centre.new ≡ (if rest_joins entry.now ending then C.Centre.lines centre.old else adjusted (C.Centre.lines centre.old) entry.now.account (release entry.now.side rest.lots)) }
+    requires room { rest_joins numbered.now.entry ending ≡ true → length mine.old.orders < 64 }
+    requires account { rest.account ≡ numbered.now.entry.account }
+    requires side { rest.side ≡ numbered.now.entry.side }
+    requires held { holds (C.Centre.lines centre.old numbered.now.entry.account) numbered.now.entry.side rest.lots ≡ true }
+    ensures queue { mine.new.orders ≡ (if rest_joins numbered.now.entry ending then joined (R.QueueRule.rule rule.now.rule) (order_of numbered.now.entry.account numbered.now.entry.side numbered.now.number numbered.now.entry.price rest.lots) mine.old.orders else mine.old.orders) }
+    ensures lines { C.Centre.lines centre.new ≡ (if rest_joins numbered.now.entry ending then C.Centre.lines centre.old else adjusted (C.Centre.lines centre.old) numbered.now.entry.account (release numbered.now.entry.side rest.lots)) }
     ensures settings { C.Centre.own centre.new ≡ C.Centre.own centre.old }
     ensures layers { C.Centre.depth centre.new ≡ C.Centre.depth centre.old }
 {
-    if rest_joins(entry, ending) {
+    if rest_joins(&numbered.entry, ending) {
         let order = Order {
-            number,
-            price: entry.price,
+            number: numbered.number,
+            price: numbered.entry.price,
             resting: rest.rest(),
         };
         mine.join(rule, order);
@@ -65,51 +64,41 @@ fn carry<R: QueueRule, C: Centre>(
     theirs: &mut Queue,
     register: &mut Register,
     centre: &mut C,
-    entry: &Entry,
-    number: u32,
+    numbered: &Numbered,
     plan: Plan,
 )
-    requires asked { verdict (C.Centre.own centre.old) (C.Centre.lines centre.old) entry.now.account entry.now.side (entry_lots entry.now) ≡ None }
-    requires planned { Planned (adjusted (C.Centre.lines centre.old) entry.now.account (hold entry.now.side (entry_lots entry.now))) theirs.old.orders.items entry.now number (entry_lots entry.now) plan.trades }
-    requires register { length register.old.trades.items + plan.trades ≤ 512 }
-    requires queue { rest_joins entry.now plan.ending ≡ true → length mine.old.orders.items < 64 }
-    ensures entered { EnteredBook (rule_of (R.QueueRule.stands rule.now.rule) (R.QueueRule.meets rule.now.rule)) entry.now number plan (C.Centre.lines centre.old) mine.old.orders.items theirs.old.orders.items register.old.trades.items (C.Centre.lines centre.new) mine.new.orders.items theirs.new.orders.items register.new.trades.items }
+    requires asked { verdict (C.Centre.own centre.old) (C.Centre.lines centre.old) numbered.now.entry.account numbered.now.entry.side (entry_lots numbered.now.entry) ≡ None }
+    requires planned { Planned (adjusted (C.Centre.lines centre.old) numbered.now.entry.account (hold numbered.now.entry.side (entry_lots numbered.now.entry))) theirs.old.orders numbered.now.entry numbered.now.number (entry_lots numbered.now.entry) plan.trades }
+    requires register { length register.old + plan.trades ≤ 512 }
+    requires queue { rest_joins numbered.now.entry plan.ending ≡ true → length mine.old.orders < 64 }
+    ensures entered { EnteredBook (R.QueueRule.rule rule.now.rule) numbered.now.entry numbered.now.number plan (C.Centre.lines centre.old) mine.old.orders theirs.old.orders register.old (C.Centre.lines centre.new) mine.new.orders theirs.new.orders register.new }
     ensures settings { C.Centre.own centre.new ≡ C.Centre.own centre.old }
     ensures layers { C.Centre.depth centre.new ≡ C.Centre.depth centre.old }
 {
-    let lots = entry_lots(entry);
-    let grant = reserve(centre, entry, lots);
-    let rest = trade_on(
-        theirs,
-        register,
-        centre,
-        entry,
-        number,
-        grant,
-        lots,
-        plan.trades,
-    );
-    leave_rest(rule, mine, centre, entry, number, rest, plan.ending);
+    let lots = entry_lots(&numbered.entry);
+    let grant = reserve(centre, &numbered.entry, lots);
+    let rest = trade_on(theirs, register, centre, numbered, grant, lots, plan.trades);
+    leave_rest(rule, mine, centre, numbered, rest, plan.ending);
 }
 
 // The outcome of an entry that was carried out.
-fn outcome(entry: &Entry, number: u32, plan: Plan) -> Outcome
-    requires { plan.left ≤ entry_lots entry.now }
-    ensures { result ≡ entry_outcome entry.now number (entry_lots entry.now) plan.ending plan.left }
+fn outcome(numbered: &Numbered, plan: Plan) -> Outcome
+    requires { plan.left ≤ entry_lots numbered.now.entry }
+    ensures { result ≡ entry_outcome numbered.now.entry numbered.now.number (entry_lots numbered.now.entry) plan.ending plan.left }
 {
-    let traded = entry_lots(entry) - plan.left;
-    let (resting, taken_off) = if rest_joins(entry, plan.ending) {
+    let traded = entry_lots(&numbered.entry) - plan.left;
+    let (resting, taken_off) = if rest_joins(&numbered.entry, plan.ending) {
         (plan.left, 0)
     } else {
         (0, plan.left)
     };
     let figures = Figures {
-        number,
+        number: numbered.number,
         traded,
         resting,
         taken_off,
     };
-    match (plan.ending, entry.rest, traded == 0) {
+    match (plan.ending, numbered.entry.rest, traded == 0) {
         (Ending::Filled, _, _) => Outcome::Filled(figures),
         (Ending::Short, Rest::Queue, true) => Outcome::Resting(figures),
         (Ending::Short, Rest::Queue, false) => Outcome::PartResting(figures),
@@ -122,14 +111,18 @@ fn outcome(entry: &Entry, number: u32, plan: Plan) -> Outcome
 impl<R: QueueRule> Book<R> {
     // Carries out an entry whose walk was planned.
     fn carry_out<C: Centre>(&mut self, centre: &mut C, entry: &Entry, plan: Plan) -> Outcome
-        requires { Judged (rule_of (R.QueueRule.stands self.old.rule.rule) (R.QueueRule.meets self.old.rule.rule)) (C.Centre.own centre.old) (state_of self.old) (C.Centre.lines centre.old) entry.now (Accepted plan) }
-        ensures answered { entered (rule_of (R.QueueRule.stands self.old.rule.rule) (R.QueueRule.meets self.old.rule.rule)) (state_of self.old) (C.Centre.lines centre.old) entry.now (walk_of (rule_of (R.QueueRule.stands self.old.rule.rule) (R.QueueRule.meets self.old.rule.rule)) (state_of self.old) entry.now) ≡ done (state_of self.new) (C.Centre.lines centre.new) (Accepted result) }
+        requires { Judged (R.QueueRule.rule self.old.rule.rule) (C.Centre.own centre.old) (state_of self.old) (C.Centre.lines centre.old) entry.now (Accepted plan) }
+        ensures answered { entered (R.QueueRule.rule self.old.rule.rule) (state_of self.old) (C.Centre.lines centre.old) entry.now (walk_of (R.QueueRule.rule self.old.rule.rule) (state_of self.old) entry.now) ≡ done (state_of self.new) (C.Centre.lines centre.new) (Accepted result) }
         ensures rule { self.new.rule ≡ self.old.rule }
         ensures settings { C.Centre.own centre.new ≡ C.Centre.own centre.old }
         ensures layers { C.Centre.depth centre.new ≡ C.Centre.depth centre.old }
     {
         let number = self.last + 1;
         self.last = number;
+        let numbered = Numbered {
+            entry: *entry,
+            number,
+        };
         match entry.side {
             Side::Buy => carry(
                 &self.rule,
@@ -137,8 +130,7 @@ impl<R: QueueRule> Book<R> {
                 &mut self.sells,
                 &mut self.register,
                 centre,
-                entry,
-                number,
+                &numbered,
                 plan,
             ),
             Side::Sell => carry(
@@ -147,18 +139,17 @@ impl<R: QueueRule> Book<R> {
                 &mut self.buys,
                 &mut self.register,
                 centre,
-                entry,
-                number,
+                &numbered,
                 plan,
             ),
         }
-        outcome(entry, number, plan)
+        outcome(&numbered, plan)
     }
 
     // Enters an order: it is judged, and then carried out.
     pub(crate) fn enter<C: Centre>(&mut self, centre: &mut C, entry: Entry) -> Reply
         requires { is_trading self.old.sitting.period ≡ true }
-        ensures answered { enter-result (rule_of (R.QueueRule.stands self.old.rule.rule) (R.QueueRule.meets self.old.rule.rule)) (C.Centre.own centre.old) (state_of self.old) (C.Centre.lines centre.old) entry ≡ done (state_of self.new) (C.Centre.lines centre.new) result }
+        ensures answered { enter-result (R.QueueRule.rule self.old.rule.rule) (C.Centre.own centre.old) (state_of self.old) (C.Centre.lines centre.old) entry ≡ done (state_of self.new) (C.Centre.lines centre.new) result }
         ensures rule { self.new.rule ≡ self.old.rule }
         ensures settings { C.Centre.own centre.new ≡ C.Centre.own centre.old }
         ensures layers { C.Centre.depth centre.new ≡ C.Centre.depth centre.old }

@@ -2,13 +2,13 @@
 ghost use Rattle.std.specs.Prelude.{◌≡◌, ◌<◌, ◌≤◌, true, length, take};
 ghost use Rattle.clearing.specs.Side.{other};
 ghost use Rattle.market.specs.BookState.{Judged, Plans, orders_out_of_step, state_of, taker_of};
-ghost use Rattle.market.specs.Calls.{entry_lots, first_of, out_of_step, terms_checks, walk_checks, walk_of};
-ghost use Rattle.market.specs.Rule.{rule_of};
+ghost use Rattle.market.specs.Calls.{allowed, entry_lots, first_of, out_of_step, terms_checks, walk_checks, walk_of};
 ghost use Rattle.market.specs.State.{is_trading, queue_of};
 
 use crate::book::Book;
-use crate::checks::{bad_market_terms, entry_lots, in_full, lots_fit, out_of_band, rest_joins};
+use crate::checks::{bad_market_terms, entry_lots, lots_fit, out_of_band, rest_joins};
 use crate::ending::Ending;
+use crate::numbered::Numbered;
 use crate::plan::{Plan, plan_walk};
 use crate::queue::Queue;
 use crate::rule::QueueRule;
@@ -16,7 +16,7 @@ use crate::step_check::in_step;
 use crate::taker::Taker;
 use clearing::centre::Centre;
 use clearing::side::Side;
-use dealing::call::Entry;
+use dealing::call::{Entry, Rest};
 use dealing::refusal::Refusal;
 
 // The last order number that can be given.
@@ -24,7 +24,7 @@ const LAST_NUMBER: u32 = 999_999;
 
 impl<R: QueueRule> Book<R> {
     pub(crate) fn queue(&self, side: Side) -> &Queue
-        ensures { result.now.orders.items ≡ queue_of side (state_of self.now) }
+        ensures { result.now.orders ≡ queue_of side (state_of self.now) }
     {
         match side {
             Side::Buy => &self.buys,
@@ -32,24 +32,24 @@ impl<R: QueueRule> Book<R> {
         }
     }
 
-    // The refusal that an entry's own terms decide.
-    fn terms_refusal(&self, entry: &Entry) -> Option<Refusal>
+    // Refuses an entry that its own terms forbid.
+    fn check_terms(&self, entry: &Entry) -> Result<(), Refusal>
         requires { is_trading self.now.sitting.period ≡ true }
-        ensures { result ≡ first_of (terms_checks (state_of self.now) entry.now) }
+        ensures { result ≡ allowed (first_of (terms_checks (state_of self.now) entry.now)) }
     {
         if !lots_fit(entry.lots) {
-            return Some(Refusal::LotsOutOfRange);
+            return Err(Refusal::LotsOutOfRange);
         }
         if bad_market_terms(entry) {
-            return Some(Refusal::MarketTerms);
+            return Err(Refusal::MarketTerms);
         }
         if out_of_band(entry, self.sitting.low, self.sitting.high) {
-            return Some(Refusal::PriceOutOfBand);
+            return Err(Refusal::PriceOutOfBand);
         }
         if self.last >= LAST_NUMBER {
-            return Some(Refusal::NumbersUsedUp);
+            return Err(Refusal::NumbersUsedUp);
         }
-        None
+        Ok(())
     }
 
     // What an entry brings to its walk, under the next number.
@@ -57,13 +57,11 @@ impl<R: QueueRule> Book<R> {
         requires { self.now.last < 999999 }
         ensures { result ≡ taker_of (state_of self.now) entry }
     {
-        let first = match self.queue(entry.side.other()).as_slice() {
-            [order, ..] => Some(order.price),
-            [] => None,
-        };
+        let theirs = self.queue(entry.side.other()).as_slice();
+        let first = theirs.first().map(|order| order.price);
+        let number = self.last + 1;
         Taker {
-            entry,
-            number: self.last + 1,
+            numbered: Numbered { entry, number },
             deviation: self.sitting.deviation,
             first,
         }
@@ -73,31 +71,32 @@ impl<R: QueueRule> Book<R> {
     fn plan(&self, entry: Entry, lots: u64) -> Plan
         requires number { self.now.last < 999999 }
         requires lots { lots ≡ entry_lots entry }
-        ensures { Plans result (walk_of (rule_of (R.QueueRule.stands self.now.rule.rule) (R.QueueRule.meets self.now.rule.rule)) (state_of self.now) entry) }
+        ensures plans { Plans result (walk_of (R.QueueRule.rule self.now.rule.rule) (state_of self.now) entry) }
+        ensures few { result.trades ≤ 64 }
     {
         let taker = self.taker(entry);
         let theirs = self.queue(entry.side.other());
         plan_walk(&self.rule.rule, &taker, lots, theirs.as_slice())
     }
 
-    // The refusal that the ending of an entry's walk and the number of its trades decide.
-    fn walk_refusal(&self, entry: &Entry, ending: Ending, trades: usize) -> Option<Refusal>
+    // Refuses an entry that the ending of its walk or the number of its trades forbids.
+    fn check_walk(&self, entry: &Entry, ending: Ending, trades: usize) -> Result<(), Refusal>
         requires { trades ≤ 64 }
-        ensures { result ≡ first_of (walk_checks (state_of self.now) entry.now ending trades) }
+        ensures { result ≡ allowed (first_of (walk_checks (state_of self.now) entry.now ending trades)) }
     {
-        if ending.is_own() && trades == 0 {
-            return Some(Refusal::OwnOrderFirst);
+        if ending == Ending::Own && trades == 0 {
+            return Err(Refusal::OwnOrderFirst);
         }
-        if in_full(entry.rest) && !ending.is_filled() {
-            return Some(Refusal::NotInFull);
+        if entry.rest == Rest::InFull && ending != Ending::Filled {
+            return Err(Refusal::NotInFull);
         }
         if self.register.len() + trades > 512 {
-            return Some(Refusal::RegisterFull);
+            return Err(Refusal::RegisterFull);
         }
-        if rest_joins(entry, ending) && self.queue(entry.side).len() >= 64 {
-            return Some(Refusal::QueueFull);
+        if rest_joins(entry, ending) && self.queue(entry.side).is_full() {
+            return Err(Refusal::QueueFull);
         }
-        None
+        Ok(())
     }
 
     // Whether the centre's line of an account does not cover what the account has resting on a side.
@@ -117,36 +116,25 @@ impl<R: QueueRule> Book<R> {
     fn out_of_step<C: Centre>(&self, centre: &C, side: Side, orders: usize) -> bool
         ensures { result ≡ orders_out_of_step (state_of self.now) (C.Centre.lines centre.now) side (take orders (queue_of side (state_of self.now))) }
     {
-        for (i, order) in self.queue(side).as_slice().iter().enumerate() {
-            if i >= orders {
-                return false;
-            }
-            if self.account_out_of_step(centre, side, order.account()) {
-                return true;
-            }
-        }
-        false
+        let mut first = self.queue(side).as_slice().iter().take(orders);
+        first.any(|order| self.account_out_of_step(centre, side, order.account()))
     }
 
     // Judges an entry: its refusal, or the plan of its walk.
     pub(crate) fn judge<C: Centre>(&self, centre: &C, entry: &Entry) -> Result<Plan, Refusal>
         requires { is_trading self.now.sitting.period ≡ true }
-        ensures { Judged (rule_of (R.QueueRule.stands self.now.rule.rule) (R.QueueRule.meets self.now.rule.rule)) (C.Centre.own centre.now) (state_of self.now) (C.Centre.lines centre.now) entry.now result }
+        ensures { Judged (R.QueueRule.rule self.now.rule.rule) (C.Centre.own centre.now) (state_of self.now) (C.Centre.lines centre.now) entry.now result }
     {
-        if let Some(refusal) = self.terms_refusal(entry) {
-            return Err(refusal);
-        }
+        self.check_terms(entry)?;
         let lots = entry_lots(entry);
         let plan = self.plan(*entry, lots);
-        if let Some(refusal) = self.walk_refusal(entry, plan.ending, plan.trades) {
-            return Err(refusal);
-        }
+        self.check_walk(entry, plan.ending, plan.trades)?;
         if self.out_of_step(centre, entry.side.other(), plan.trades) {
             return Err(Refusal::OutOfStep);
         }
-        match centre.question(entry.account, entry.side, lots) {
-            Ok(()) => Ok(plan),
-            Err(denial) => Err(Refusal::CentreDenies(denial)),
-        }
+        centre
+            .question(entry.account, entry.side, lots)
+            .map_err(Refusal::CentreDenies)?;
+        Ok(plan)
     }
 }

@@ -11,6 +11,7 @@ pub mod examples;
 mod judging;
 pub mod law;
 pub mod market;
+mod numbered;
 pub mod order;
 pub mod period;
 mod plan;

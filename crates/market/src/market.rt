@@ -2,7 +2,6 @@
 ghost use Rattle.market.specs.BookState.{state_of};
 ghost use Rattle.market.specs.Calls.{answer, done};
 ghost use Rattle.market.specs.Law.{CallKeepsTheLaw};
-ghost use Rattle.market.specs.Rule.{rule_of};
 ghost use Rattle.market.specs.State.{new_market, queue_of};
 ghost use Rattle.std.specs.Prelude.{◌≡◌, IfOk};
 
@@ -31,7 +30,7 @@ pub struct Market<R, C> {
 impl<R: QueueRule> Book<R> {
     // Any of the six calls, over a centre. The period decides first, and then the orders.
     pub(crate) fn call<C: Centre>(&mut self, centre: &mut C, call: Call) -> Reply
-        ensures answered { answer (rule_of (R.QueueRule.stands self.old.rule.rule) (R.QueueRule.meets self.old.rule.rule)) (C.Centre.own centre.old) (state_of self.old) (C.Centre.lines centre.old) call ≡ done (state_of self.new) (C.Centre.lines centre.new) result }
+        ensures answered { answer (R.QueueRule.rule self.old.rule.rule) (C.Centre.own centre.old) (state_of self.old) (C.Centre.lines centre.old) call ≡ done (state_of self.new) (C.Centre.lines centre.new) result }
         ensures rule { self.new.rule ≡ self.old.rule }
         ensures settings { C.Centre.own centre.new ≡ C.Centre.own centre.old }
         ensures layers { C.Centre.depth centre.new ≡ C.Centre.depth centre.old }
@@ -82,8 +81,8 @@ impl<R: QueueRule, C: Centre> Market<R, C> {
     // Any of the six calls. Its reply, the book and the centre's lines are those of the definitions, and the law over runs
     // holds of whatever calls led here, with this one after them.
     pub fn call(&mut self, call: Call) -> Reply
-        ensures answered { answer (rule_of (R.QueueRule.stands self.old.book.rule.rule) (R.QueueRule.meets self.old.book.rule.rule)) (C.Centre.own self.old.centre) (state_of self.old.book) (C.Centre.lines self.old.centre) call ≡ done (state_of self.new.book) (C.Centre.lines self.new.centre) result }
-        ensures law { CallKeepsTheLaw (rule_of (R.QueueRule.stands self.old.book.rule.rule) (R.QueueRule.meets self.old.book.rule.rule)) (C.Centre.own self.old.centre) (state_of self.old.book) (C.Centre.lines self.old.centre) call result (state_of self.new.book) (C.Centre.lines self.new.centre) }
+        ensures answered { answer (R.QueueRule.rule self.old.book.rule.rule) (C.Centre.own self.old.centre) (state_of self.old.book) (C.Centre.lines self.old.centre) call ≡ done (state_of self.new.book) (C.Centre.lines self.new.centre) result }
+        ensures law { CallKeepsTheLaw (R.QueueRule.rule self.old.book.rule.rule) (C.Centre.own self.old.centre) (state_of self.old.book) (C.Centre.lines self.old.centre) call result (state_of self.new.book) (C.Centre.lines self.new.centre) }
         ensures rule { self.new.book.rule ≡ self.old.book.rule }
         ensures settings { C.Centre.own self.new.centre ≡ C.Centre.own self.old.centre }
         ensures layers { C.Centre.depth self.new.centre ≡ C.Centre.depth self.old.centre }

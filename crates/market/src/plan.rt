@@ -1,13 +1,11 @@
 // The plan of a walk: what it would come to, before anything is changed.
 ghost use Rattle.market.specs.PlanTable.{eligible_by, reach_of, walk_by};
-ghost use Rattle.market.specs.Rule.{rule_of};
 ghost use Rattle.std.specs.Prelude.{◌≡◌, length};
 
 use crate::ending::Ending;
 use crate::order::Order;
 use crate::rule::QueueRule;
 use crate::taker::Taker;
-use ordered::same;
 
 // What the walk of an entry would come to.
 #[derive(Clone, Copy)]
@@ -31,7 +29,7 @@ enum Reach {
 }
 
 fn judge<R: QueueRule>(rule: &R, taker: &Taker, left: u64, order: &Order) -> Reach
-    ensures { result ≡ reach_of (eligible_by (rule_of (R.QueueRule.stands rule.now) (R.QueueRule.meets rule.now)) taker.now) taker.now.entry left order.now }
+    ensures { result ≡ reach_of (eligible_by (R.QueueRule.rule rule.now) taker.now) taker.now.numbered.entry left order.now }
 {
     if left == 0 {
         return Reach::Stopped(Ending::Filled);
@@ -39,10 +37,10 @@ fn judge<R: QueueRule>(rule: &R, taker: &Taker, left: u64, order: &Order) -> Rea
     if !taker.eligible(rule, order) {
         return Reach::Stopped(Ending::Short);
     }
-    if same(order.resting.account(), taker.entry.account) {
+    if order.account() == taker.numbered.entry.account {
         return Reach::Stopped(Ending::Own);
     }
-    if order.resting.lots() <= left {
+    if order.lots() <= left {
         Reach::UsedUp
     } else {
         Reach::Partly
@@ -51,14 +49,14 @@ fn judge<R: QueueRule>(rule: &R, taker: &Taker, left: u64, order: &Order) -> Rea
 
 // The plan of an entry with so many lots, down a queue from its first order.
 pub(crate) fn plan_walk<R: QueueRule>(rule: &R, taker: &Taker, lots: u64, queue: &[Order]) -> Plan
-    ensures ending { result.ending ≡ (walk_by (rule_of (R.QueueRule.stands rule.now) (R.QueueRule.meets rule.now)) taker.now lots queue.now).ending }
-    ensures left { result.left ≡ (walk_by (rule_of (R.QueueRule.stands rule.now) (R.QueueRule.meets rule.now)) taker.now lots queue.now).left }
-    ensures trades { result.trades ≡ length (walk_by (rule_of (R.QueueRule.stands rule.now) (R.QueueRule.meets rule.now)) taker.now lots queue.now).trades }
+    ensures ending { result.ending ≡ (walk_by (R.QueueRule.rule rule.now) taker.now lots queue.now).ending }
+    ensures left { result.left ≡ (walk_by (R.QueueRule.rule rule.now) taker.now lots queue.now).left }
+    ensures trades { result.trades ≡ length (walk_by (R.QueueRule.rule rule.now) taker.now lots queue.now).trades }
 {
     let mut left = lots;
     for (i, order) in queue.iter().enumerate() {
         match judge(rule, taker, left, order) {
-            Reach::UsedUp => left -= order.resting.lots(),
+            Reach::UsedUp => left -= order.lots(),
             Reach::Partly => {
                 return Plan {
                     ending: Ending::Filled,

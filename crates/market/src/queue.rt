@@ -1,14 +1,13 @@
 // The queue of one side of the book.
-ghost use Rattle.std.specs.Prelude.{◌≡◌, ◌<◌, ◌≤◌, [], length, pos, IfOk, vec_len, vec_capacity};
+ghost use Rattle.std.specs.Prelude.{◌≡◌, ◌<◌, ◌≤◌, ◌↔◌, [], length, pos, IfOk, IsTrue};
 ghost use Rattle.market.specs.Order.{joined, lots_resting};
-ghost use Rattle.market.specs.Rule.{rule_of};
 ghost use Rattle.ordered.specs.Row.{Found};
 
 use crate::order::Order;
 use crate::rule::QueueRule;
 use crate::standing::ByRule;
-use ordered::kept::add;
-use ordered::{find, same};
+use ordered::find;
+use ordered::row::Row;
 use std::alloc::{AllocError, Global};
 
 mod lowering;
@@ -16,50 +15,50 @@ mod lowering;
 // The orders of one side from first to last, at most 64, for which there is room from the start.
 #[derive(Drop)]
 pub struct Queue {
-    orders: Vec<Order>,
-    ghost few: { vec_len orders ≤ 64 },
-    ghost room: { 64 ≤ vec_capacity orders },
+    orders: Row<Order, 64>,
 }
 
 impl Queue {
     pub(crate) fn new(heap: Global) -> Result<Queue, AllocError>
-        ensures { IfOk result (λ q. q.orders.items ≡ []) }
+        ensures { IfOk result (λ q. q.orders ≡ []) }
     {
-        let orders = Vec::with_capacity(heap, 64)?;
+        let orders = Row::new(heap)?;
         Ok(Queue { orders })
     }
 
-    pub(crate) fn len(&self) -> usize
-        ensures { result ≡ length self.now.orders.items }
+    pub(crate) fn is_full(&self) -> bool
+        ensures full { IsTrue result ↔ (length self.now.orders ≡ 64) }
+        ensures few { length self.now.orders ≤ 64 }
     {
-        self.orders.len()
+        self.orders.is_full()
     }
 
     pub(crate) fn as_slice(&self) -> &[Order]
-        ensures { result.now ≡ self.now.orders.items }
+        ensures orders { result.now ≡ self.now.orders }
+        ensures few { length self.now.orders ≤ 64 }
     {
         self.orders.as_slice()
     }
 
     // Where the order with a number is.
     pub(crate) fn find<R: QueueRule>(&self, rule: &ByRule<R>, number: i64) -> Option<usize>
-        ensures { Found (λ o. pos o.number) self.now.orders.items number result }
+        ensures { Found (λ o. pos o.number) self.now.orders number result }
     {
         find(rule, self.as_slice(), number)
     }
 
     // Puts an order into its place.
     pub(crate) fn join<R: QueueRule>(&mut self, rule: &ByRule<R>, order: Order)
-        requires { length self.old.orders.items < 64 }
-        ensures { self.new.orders.items ≡ joined (rule_of (R.QueueRule.stands rule.now.rule) (R.QueueRule.meets rule.now.rule)) order self.old.orders.items }
+        requires { length self.old.orders < 64 }
+        ensures { self.new.orders ≡ joined (R.QueueRule.rule rule.now.rule) order self.old.orders }
     {
         // There is room, so no order comes back.
-        let _ = add(rule, &mut self.orders, order);
+        let _ = self.orders.add(rule, order);
     }
 
     // The lots that an account has resting.
     pub(crate) fn lots_resting(&self, account: i64) -> u128
-        ensures { result ≡ lots_resting account self.now.orders.items }
+        ensures { result ≡ lots_resting account self.now.orders }
     {
         lots_of(self.as_slice(), account)
     }
@@ -72,7 +71,7 @@ fn lots_of(orders: &[Order], account: i64) -> u128
 {
     let mut lots: u128 = 0;
     for order in orders {
-        if same(order.account(), account) {
+        if order.account() == account {
             lots += u128::from(order.lots());
         }
     }

@@ -1,5 +1,5 @@
 // The queue rule by rate: a buy at a higher price stands first, and so does a sell at a lower one.
-ghost use Rattle.market.specs.QueueRules.{rate_meets, rate_stands};
+ghost use Rattle.market.specs.QueueRules.{by_rate};
 ghost use Rattle.std.proofs.Common.{rules};
 
 use crate::by_price::{higher_first, lower_first};
@@ -10,9 +10,7 @@ use clearing::side::Side;
 pub struct ByRate;
 
 impl QueueRule for ByRate {
-    ghost stands = { λ _. rate_stands };
-
-    ghost meets = { λ _. rate_meets };
+    ghost rule = { λ _. by_rate };
 
     ghost irreflexive = { Prim.search rules };
 

@@ -1,7 +1,6 @@
 // A run: a list of calls given to a new market, as a house replays the journal of a day.
 ghost use Rattle.market.specs.BookState.{state_of};
 ghost use Rattle.market.specs.Law.{IsRun, RunKeepsTheLaw};
-ghost use Rattle.market.specs.Rule.{rule_of};
 ghost use Rattle.std.specs.Prelude.{◌≡◌, IfOk};
 
 use crate::market::Market;
@@ -26,9 +25,9 @@ pub fn run<R: QueueRule + Drop, C: Centre + Drop>(
     centre: C,
     calls: &[Call],
 ) -> Result<Ran<R, C>, AllocError>
-    ensures ran { IfOk result (λ x. IsRun (rule_of (R.QueueRule.stands rule) (R.QueueRule.meets rule)) (C.Centre.own centre) (C.Centre.lines centre) calls.now (state_of x.market.book) (C.Centre.lines x.market.centre) x.replies.items) }
+    ensures ran { IfOk result (λ x. IsRun (R.QueueRule.rule rule) (C.Centre.own centre) (C.Centre.lines centre) calls.now (state_of x.market.book) (C.Centre.lines x.market.centre) x.replies.items) }
     ensures settings { IfOk result (λ x. (x.market.book.rule.rule ≡ rule) × (C.Centre.own x.market.centre ≡ C.Centre.own centre) × (C.Centre.depth x.market.centre ≡ C.Centre.depth centre)) }
-    ensures law { RunKeepsTheLaw (rule_of (R.QueueRule.stands rule) (R.QueueRule.meets rule)) (C.Centre.own centre) (C.Centre.lines centre) calls.now }
+    ensures law { RunKeepsTheLaw (R.QueueRule.rule rule) (C.Centre.own centre) (C.Centre.lines centre) calls.now }
 {
     let mut market = Market::new(heap, rule, centre)?;
     let mut replies = Vec::with_capacity(heap, calls.len())?;

@@ -1,7 +1,6 @@
 // A queue rule as a standing order over all orders: buys before sells, which no queue has together, and by the rule on
 // one side.
 ghost use Rattle.market.specs.Order.{sided};
-ghost use Rattle.market.specs.Rule.{rule_of};
 ghost use Rattle.std.specs.Prelude.{pos};
 ghost use Rattle.std.proofs.Common.{rules};
 
@@ -19,7 +18,7 @@ pub struct ByRule<R> {
 impl<R: QueueRule> Standing<Order> for ByRule<R> {
     ghost key = { λ o. pos o.number };
 
-    ghost stands = { λ s. sided (rule_of (R.QueueRule.stands s.rule) (R.QueueRule.meets s.rule)) };
+    ghost stands = { λ s. sided (R.QueueRule.rule s.rule) };
 
     ghost irreflexive = { Prim.search rules };
 

@@ -9,8 +9,7 @@ use clearing::side::Side;
 pub(crate) fn in_step<C: Centre>(centre: &C, account: i64, side: Side, resting: u128) -> bool
     ensures { result ≡ holds (C.Centre.lines centre.now account) side resting }
 {
-    match centre.line(account) {
-        Some(line) => resting <= line.on(side).held as u128,
-        None => false,
-    }
+    centre
+        .line(account)
+        .is_some_and(|line| resting <= u128::from(line.on(side).held))
 }

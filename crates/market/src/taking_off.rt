@@ -4,7 +4,7 @@ ghost use Rattle.clearing.specs.Grant.{grant_of};
 ghost use Rattle.clearing.specs.Side.{other};
 ghost use Rattle.dealing.specs.declared.refusal.Refusal.TheVariants.{OutOfStep};
 ghost use Rattle.market.specs.BookState.{state_of};
-ghost use Rattle.market.specs.Calls.{check, done, first_of, out_of_step, reduce as reduced-by, reduce_checks, withdraw as withdrawn-by, withdraw_checks};
+ghost use Rattle.market.specs.Calls.{allowed, check, done, first_of, out_of_step, reduce as reduced-by, reduce_checks, withdraw as withdrawn-by, withdraw_checks};
 ghost use Rattle.market.specs.Naming.{Named, Placed, TakenOffBook, order_at};
 ghost use Rattle.market.specs.Order.{account_of, lots_of, side_of};
 ghost use Rattle.market.specs.QueueTable.{lowered_at};
@@ -22,7 +22,6 @@ use clearing::side::Side;
 use dealing::outcome::{Figures, Outcome};
 use dealing::refusal::Refusal;
 use dealing::reply::Reply;
-use ordered::same;
 
 // Where a resting order is: in the queue of a side, at an index.
 #[derive(Clone, Copy)]
@@ -56,49 +55,48 @@ impl<R: QueueRule> Book<R> {
         &self.queue(place.side).as_slice()[place.at]
     }
 
-    // The refusal of an order whose account and side are out of step with the centre.
-    fn step_refusal<C: Centre>(&self, centre: &C, order: &Order) -> Option<Refusal>
-        ensures { result ≡ first_of (check (out_of_step (state_of self.now) (C.Centre.lines centre.now) (account_of order.now) (side_of order.now)) OutOfStep ∷ []) }
+    // Refuses an order whose account and side are out of step with the centre.
+    fn check_step<C: Centre>(&self, centre: &C, order: &Order) -> Result<(), Refusal>
+        ensures { result ≡ allowed (first_of (check (out_of_step (state_of self.now) (C.Centre.lines centre.now) (account_of order.now) (side_of order.now)) OutOfStep ∷ [])) }
     {
         if self.account_out_of_step(centre, order.side(), order.account()) {
-            Some(Refusal::OutOfStep)
-        } else {
-            None
+            return Err(Refusal::OutOfStep);
         }
+        Ok(())
     }
 
-    // The refusal of a withdrawal by an account.
-    fn withdraw_refusal<C: Centre>(
+    // Refuses a withdrawal that an account may not make.
+    fn check_withdrawal<C: Centre>(
         &self,
         centre: &C,
         order: &Order,
         account: i64,
-    ) -> Option<Refusal>
-        ensures { result ≡ first_of (withdraw_checks (state_of self.now) (C.Centre.lines centre.now) account order.now) }
+    ) -> Result<(), Refusal>
+        ensures { result ≡ allowed (first_of (withdraw_checks (state_of self.now) (C.Centre.lines centre.now) account order.now)) }
     {
-        if !same(order.account(), account) {
-            return Some(Refusal::NotYourOrder);
+        if order.account() != account {
+            return Err(Refusal::NotYourOrder);
         }
-        self.step_refusal(centre, order)
+        self.check_step(centre, order)
     }
 
-    // The refusal of a reduction by an account.
-    fn reduce_refusal<C: Centre>(
+    // Refuses a reduction that an account may not make.
+    fn check_reduction<C: Centre>(
         &self,
         centre: &C,
         order: &Order,
         account: i64,
         lots: i64,
-    ) -> Option<Refusal>
-        ensures { result ≡ first_of (reduce_checks (state_of self.now) (C.Centre.lines centre.now) account lots order.now) }
+    ) -> Result<(), Refusal>
+        ensures { result ≡ allowed (first_of (reduce_checks (state_of self.now) (C.Centre.lines centre.now) account lots order.now)) }
     {
-        if !same(order.account(), account) {
-            return Some(Refusal::NotYourOrder);
+        if order.account() != account {
+            return Err(Refusal::NotYourOrder);
         }
         if !reduction_fits(lots, order.lots()) {
-            return Some(Refusal::ReductionOutOfRange);
+            return Err(Refusal::ReductionOutOfRange);
         }
-        self.step_refusal(centre, order)
+        self.check_step(centre, order)
     }
 
     // Calls lots up out of the order at a place, which leaves its queue with its last ones.
@@ -145,13 +143,9 @@ impl<R: QueueRule> Book<R> {
         ensures settings { C.Centre.own centre.new ≡ C.Centre.own centre.old }
         ensures layers { C.Centre.depth centre.new ≡ C.Centre.depth centre.old }
     {
-        let Some(place) = self.named(number) else {
-            return Err(Refusal::NoSuchOrder);
-        };
+        let place = self.named(number).ok_or(Refusal::NoSuchOrder)?;
         let order = self.order(place);
-        if let Some(refusal) = self.withdraw_refusal(centre, order, account) {
-            return Err(refusal);
-        }
+        self.check_withdrawal(centre, order, account)?;
         let lots = order.lots();
         Ok(Outcome::Withdrawn(self.take_off(centre, place, lots)))
     }
@@ -170,13 +164,9 @@ impl<R: QueueRule> Book<R> {
         ensures settings { C.Centre.own centre.new ≡ C.Centre.own centre.old }
         ensures layers { C.Centre.depth centre.new ≡ C.Centre.depth centre.old }
     {
-        let Some(place) = self.named(number) else {
-            return Err(Refusal::NoSuchOrder);
-        };
+        let place = self.named(number).ok_or(Refusal::NoSuchOrder)?;
         let order = self.order(place);
-        if let Some(refusal) = self.reduce_refusal(centre, order, account, lots) {
-            return Err(refusal);
-        }
+        self.check_reduction(centre, order, account, lots)?;
         Ok(Outcome::Reduced(self.take_off(centre, place, lots.unsigned_abs())))
     }
 }

@@ -1,5 +1,5 @@
 // The queue rule by yield: a buy at a lower yield stands first, and so does a sell at a higher one.
-ghost use Rattle.market.specs.QueueRules.{yield_meets, yield_stands};
+ghost use Rattle.market.specs.QueueRules.{by_yield};
 ghost use Rattle.std.proofs.Common.{rules};
 
 use crate::by_price::{higher_first, lower_first};
@@ -10,9 +10,7 @@ use clearing::side::Side;
 pub struct ByYield;
 
 impl QueueRule for ByYield {
-    ghost stands = { λ _. yield_stands };
-
-    ghost meets = { λ _. yield_meets };
+    ghost rule = { λ _. by_yield };
 
     ghost irreflexive = { Prim.search rules };
 

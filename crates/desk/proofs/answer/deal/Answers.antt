@@ -1,8 +1,9 @@
-use Rattle.std.proofs.Common.{sym, rules}
+use Rattle.std.proofs.Common.{sym}
+use Rattle.std.proofs.lemmas.Result.{err_from_is_err_and}
 use Rattle.desk.proofs.Showing.{refusal_fits}
 use Rattle.desk.proofs.answer.deal.Goals as goal
 
-pub returns-in-Err : goal.returns-in-Err
-returns-in-Err g c =
-    let was = c.in-Err.ensures.value in
-    record { dealt = search rules; refused = λ e is. refusal_fits c.args.line.now c.in-Err.refusal (sym was) }
+pub returns-in_err-read-clause-refused : goal.returns-in_err-read-clause-refused
+returns-in_err-read-clause-refused g c e is =
+    let p = err_from_is_err_and c.from_residual.result c.from_residual.ensures.1 in
+    rw (p.1, p.2) (refusal_fits c.args.line.now c.in_err-read.field-0.0 (sym c.in_err-read.ensures.value))

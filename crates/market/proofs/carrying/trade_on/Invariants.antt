@@ -5,6 +5,6 @@ use Rattle.market.proofs.carrying.trade_on.Given as goal
 
 abbrev pub invariant-loop-i : goal.invariant-loop-i
 invariant-loop-i g l =
-    UnderWay l.entry l.number (g.C.Centre.lines l.initial.centre) l.initial.theirs.orders.items l.initial.register.trades.items l.lots l.trades l._i (g.C.Centre.lines l.centre) l.theirs.orders.items l.register.trades.items l.left l.rest
+    UnderWay l.numbered.entry l.numbered.number (g.C.Centre.lines l.initial.centre) l.initial.theirs.orders l.initial.register l.lots l.trades l._i (g.C.Centre.lines l.centre) l.theirs.orders l.register l.left l.rest
     × (g.C.Centre.own l.centre ≡ g.C.Centre.own l.initial.centre)
     × (g.C.Centre.depth l.centre ≡ g.C.Centre.depth l.initial.centre)

@@ -2,13 +2,12 @@
 use Rattle.std.proofs.Common.{◌≡◌, ◌≤◌, length, take}
 use Rattle.market.specs.BookState.{state_of}
 use Rattle.market.specs.Law.{IsRun}
-use Rattle.market.specs.Rule.{rule_of}
 use Rattle.market.proofs.run.run.Given as goal
 
 abbrev pub invariant-loop-call : goal.invariant-loop-call
 invariant-loop-call g l =
     let m = l.initial.market in
-    IsRun (rule_of (g.R.QueueRule.stands m.book.rule.rule) (g.R.QueueRule.meets m.book.rule.rule)) (g.C.Centre.own m.centre) (g.C.Centre.lines m.centre) (take l.call-index l.calls) (state_of l.market.book) (g.C.Centre.lines l.market.centre) l.replies.items
+    IsRun (g.R.QueueRule.rule m.book.rule.rule) (g.C.Centre.own m.centre) (g.C.Centre.lines m.centre) (take l.call-index l.calls) (state_of l.market.book) (g.C.Centre.lines l.market.centre) l.replies.items
     × (l.market.book.rule ≡ m.book.rule)
     × (g.C.Centre.own l.market.centre ≡ g.C.Centre.own m.centre)
     × (g.C.Centre.depth l.market.centre ≡ g.C.Centre.depth m.centre)

@@ -7,7 +7,6 @@ use Rattle.dealing.specs.declared.call.Call.TheVariants.{Open, Enter, Withdraw, 
 use Rattle.dealing.specs.declared.call.Entry.{Entry}
 use Rattle.market.specs.BookState.{state_of}
 use Rattle.market.specs.Calls.{answer, enter, reduce, withdraw}
-use Rattle.market.specs.Rule.{Rule, rule_of}
 use Rattle.market.specs.Sitting.{goes_on}
 use Rattle.market.specs.State.{State, is_trading, is_unopened}
 use Rattle.market.specs.declared.period.Period.{Period}
@@ -22,64 +21,52 @@ no_other p (Reduce a k n) on e w r = r a k n refl
 no_other p Suspend on e w r = false≢true on
 no_other p Resume on e w r = false≢true on
 
-pub returns-in-Some : goal.returns-in-Some
-returns-in-Some g c =
+pub returns-in-Some-clause-answered : goal.returns-in-Some-clause-answered
+returns-in-Some-clause-answered g c =
     let b = c.args.self.now in
-    let R : Rule = rule_of (g.R.QueueRule.stands b.rule.rule) (g.R.QueueRule.meets b.rule.rule) in
-    record {
-      answered = c.in-Some.ensures R (g.C.Centre.own c.args.centre.now) (state_of b) (g.C.Centre.lines c.args.centre.now);
-      rule = refl;
-      settings = refl;
-      layers = refl;
-    }
+    c.in-Some.ensures (g.R.QueueRule.rule b.rule.rule) (g.C.Centre.own c.args.centre.now) (state_of b) (g.C.Centre.lines c.args.centre.now)
 
 pub enter-requires : goal.enter-requires
 enter-requires g c =
     let b = c.args.self.now in
-    let R : Rule = rule_of (g.R.QueueRule.stands b.rule.rule) (g.R.QueueRule.meets b.rule.rule) in
+    let R = g.R.QueueRule.rule b.rule.rule in
     let t = c.in_default.ensures R (g.C.Centre.own c.args.centre.now) (state_of b) (g.C.Centre.lines c.args.centre.now) in
     ap (λ (S : State). is_trading S.period) t.0 ∙ subst (λ x. goes_on b.sitting.period x ≡ true) c.in-Enter.is t.1
 
 pub withdraw-requires : goal.withdraw-requires
 withdraw-requires g c =
     let b = c.args.self.now in
-    let R : Rule = rule_of (g.R.QueueRule.stands b.rule.rule) (g.R.QueueRule.meets b.rule.rule) in
+    let R = g.R.QueueRule.rule b.rule.rule in
     let t = c.in_default.ensures R (g.C.Centre.own c.args.centre.now) (state_of b) (g.C.Centre.lines c.args.centre.now) in
     ap (λ (S : State). is_unopened S.period) t.0 ∙ not-true _ (subst (λ x. goes_on b.sitting.period x ≡ true) c.in-Withdraw.is t.1)
 
 pub reduce-requires : goal.reduce-requires
 reduce-requires g c =
     let b = c.args.self.now in
-    let R : Rule = rule_of (g.R.QueueRule.stands b.rule.rule) (g.R.QueueRule.meets b.rule.rule) in
+    let R = g.R.QueueRule.rule b.rule.rule in
     let t = c.in_default.ensures R (g.C.Centre.own c.args.centre.now) (state_of b) (g.C.Centre.lines c.args.centre.now) in
     ap (λ (S : State). is_unopened S.period) t.0 ∙ not-true _ (subst (λ x. goes_on b.sitting.period x ≡ true) c.in-Reduce.is t.1)
 
 pub unreachable-requires : goal.unreachable-requires
 unreachable-requires g c =
     let b = c.args.self.now in
-    let R : Rule = rule_of (g.R.QueueRule.stands b.rule.rule) (g.R.QueueRule.meets b.rule.rule) in
+    let R = g.R.QueueRule.rule b.rule.rule in
     let t = c.in_default.ensures R (g.C.Centre.own c.args.centre.now) (state_of b) (g.C.Centre.lines c.args.centre.now) in
     no_other b.sitting.period c.args.call t.1 c.in_default-call.not-Enter c.in_default-call.not-Withdraw c.in_default-call.not-Reduce
 
-pub returns-in-Enter : goal.returns-in-Enter
-returns-in-Enter g c =
+pub returns-in-Enter-clause-answered : goal.returns-in-Enter-clause-answered
+returns-in-Enter-clause-answered g c =
     let b = c.args.self.now in
-    let R : Rule = rule_of (g.R.QueueRule.stands b.rule.rule) (g.R.QueueRule.meets b.rule.rule) in
+    let R = g.R.QueueRule.rule b.rule.rule in
     let C = g.C.Centre.own c.args.centre.now in
     let L = g.C.Centre.lines c.args.centre.now in
     let t = c.in_default.ensures R C (state_of b) L in
-    let done-so = c.enter.ensures in
-    record {
-      answered = ap (answer R C (state_of b) L) c.in-Enter.is ∙ ap (λ S. enter R C S L c.in-Enter.entry) (sym t.0) ∙ done-so.answered;
-      rule = done-so.rule;
-      settings = done-so.settings;
-      layers = done-so.layers;
-    }
+    ap (answer R C (state_of b) L) c.in-Enter.is ∙ ap (λ S. enter R C S L c.in-Enter.entry) (sym t.0) ∙ c.enter.ensures.answered
 
-pub returns-in-Withdraw : goal.returns-in-Withdraw
-returns-in-Withdraw g c =
+pub returns-in-Withdraw-clause-answered : goal.returns-in-Withdraw-clause-answered
+returns-in-Withdraw-clause-answered g c =
     let b = c.args.self.now in
-    let R : Rule = rule_of (g.R.QueueRule.stands b.rule.rule) (g.R.QueueRule.meets b.rule.rule) in
+    let R = g.R.QueueRule.rule b.rule.rule in
     let C = g.C.Centre.own c.args.centre.now in
     let L = g.C.Centre.lines c.args.centre.now in
     let t = c.in_default.ensures R C (state_of b) L in
@@ -88,18 +75,12 @@ returns-in-Withdraw g c =
     let fk : SFits w64 c.in-Withdraw.number = search rules in
     let a = sym (to_z-of_z w64 c.in-Withdraw.account fa) in
     let k = sym (to_z-of_z w64 c.in-Withdraw.number fk) in
-    let done-so = c.withdraw.ensures in
-    record {
-      answered = ap (answer R C (state_of b) L) c.in-Withdraw.is ∙ (λ i. withdraw (same i) L (a i) (k i)) ∙ done-so.answered;
-      rule = done-so.rule;
-      settings = done-so.settings;
-      layers = done-so.layers;
-    }
+    ap (answer R C (state_of b) L) c.in-Withdraw.is ∙ (λ i. withdraw (same i) L (a i) (k i)) ∙ c.withdraw.ensures.answered
 
-pub returns-in-Reduce : goal.returns-in-Reduce
-returns-in-Reduce g c =
+pub returns-in-Reduce-clause-answered : goal.returns-in-Reduce-clause-answered
+returns-in-Reduce-clause-answered g c =
     let b = c.args.self.now in
-    let R : Rule = rule_of (g.R.QueueRule.stands b.rule.rule) (g.R.QueueRule.meets b.rule.rule) in
+    let R = g.R.QueueRule.rule b.rule.rule in
     let C = g.C.Centre.own c.args.centre.now in
     let L = g.C.Centre.lines c.args.centre.now in
     let t = c.in_default.ensures R C (state_of b) L in
@@ -110,10 +91,4 @@ returns-in-Reduce g c =
     let a = sym (to_z-of_z w64 c.in-Reduce.account fa) in
     let k = sym (to_z-of_z w64 c.in-Reduce.number fk) in
     let n = sym (to_z-of_z w64 c.in-Reduce.lots fn) in
-    let done-so = c.reduce.ensures in
-    record {
-      answered = ap (answer R C (state_of b) L) c.in-Reduce.is ∙ (λ i. reduce (same i) L (a i) (k i) (n i)) ∙ done-so.answered;
-      rule = done-so.rule;
-      settings = done-so.settings;
-      layers = done-so.layers;
-    }
+    ap (answer R C (state_of b) L) c.in-Reduce.is ∙ (λ i. reduce (same i) L (a i) (k i) (n i)) ∙ c.reduce.ensures.answered

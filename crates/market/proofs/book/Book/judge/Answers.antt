@@ -1,66 +1,65 @@
 -- The refusals are judged stage by stage, each on what the stages before left open.
-use Rattle.std.proofs.Common.{◌∙◌, ap₂, w64, SFits, rules}
+use Rattle.std.proofs.Common.{sym, ◌∙◌, ap₂, w64, SFits, rules}
 use Rattle.std.proofs.lemmas.Int.{to_z-of_z}
+use Rattle.std.proofs.lemmas.Result.{MatchResult-weaker, err_from_is_err_and}
 use Rattle.clearing.specs.Centre.{answered, verdict}
-use Rattle.market.proofs.Refusals.{answered_no, answered_yes, by_centre, by_lines, by_terms, by_walk, plan_few, plan_lines}
+use Rattle.market.proofs.Refusals.{allowed_no, allowed_yes, by_centre, by_lines, by_terms, by_walk, centre_part, plan_lines}
 use Rattle.market.specs.BookState.{state_of}
 use Rattle.market.specs.Calls.{entry_lots, walk_of}
-use Rattle.market.specs.Rule.{Rule, rule_of}
 use Rattle.market.proofs.book.Book.judge.Goals as goal
 
-pub returns-in-Some : goal.returns-in-Some
-returns-in-Some g c =
+pub returns-in_err-check_terms : goal.returns-in_err-check_terms
+returns-in_err-check_terms g c =
     let b = c.args.self.now in
-    let R : Rule = rule_of (g.R.QueueRule.stands b.rule.rule) (g.R.QueueRule.meets b.rule.rule) in
+    let R = g.R.QueueRule.rule b.rule.rule in
     let e = c.args.entry.now in
-    by_terms (g.C.Centre.own c.args.centre.now) (state_of b) (g.C.Centre.lines c.args.centre.now) e (walk_of R (state_of b) e) c.in-Some.refusal c.in-Some.ensures
+    let p = err_from_is_err_and c.from_residual.result c.from_residual.ensures.1 in
+    rw (p.1, p.2) (by_terms (g.C.Centre.own c.args.centre.now) (state_of b) (g.C.Centre.lines c.args.centre.now) e (walk_of R (state_of b) e) c.in_err-check_terms.field-0.0 (allowed_no _ _ (sym c.in_err-check_terms.ensures)))
 
-pub walk_refusal-requires : goal.walk_refusal-requires
-walk_refusal-requires g c =
+pub returns-in_err-check_walk : goal.returns-in_err-check_walk
+returns-in_err-check_walk g c =
     let b = c.args.self.now in
-    let R : Rule = rule_of (g.R.QueueRule.stands b.rule.rule) (g.R.QueueRule.meets b.rule.rule) in
-    plan_few R b c.args.entry.now c.plan-plan.result c.plan-plan.ensures
-
-pub returns-in-Some-walk_refusal : goal.returns-in-Some-walk_refusal
-returns-in-Some-walk_refusal g c =
-    let b = c.args.self.now in
-    let R : Rule = rule_of (g.R.QueueRule.stands b.rule.rule) (g.R.QueueRule.meets b.rule.rule) in
+    let R = g.R.QueueRule.rule b.rule.rule in
     let e = c.args.entry.now in
-    by_walk (g.C.Centre.own c.args.centre.now) (state_of b) (g.C.Centre.lines c.args.centre.now) e (walk_of R (state_of b) e) c.in_default.ensures c.plan-plan.result c.plan-plan.ensures c.in-Some-walk_refusal.refusal c.in-Some-walk_refusal.ensures
+    let p = err_from_is_err_and c.from_residual-in_err-check_walk.result c.from_residual-in_err-check_walk.ensures.1 in
+    rw (p.1, p.2) (by_walk (g.C.Centre.own c.args.centre.now) (state_of b) (g.C.Centre.lines c.args.centre.now) e (walk_of R (state_of b) e) (allowed_yes _ _ (sym c.in_ok-check_terms.ensures)) c.plan-plan.result c.plan-plan.ensures.plans c.in_err-check_walk.field-0.0 (allowed_no _ _ (sym c.in_err-check_walk.ensures)))
 
 pub returns-then-out_of_step : goal.returns-then-out_of_step
 returns-then-out_of_step g c =
     let b = c.args.self.now in
-    let R : Rule = rule_of (g.R.QueueRule.stands b.rule.rule) (g.R.QueueRule.meets b.rule.rule) in
+    let R = g.R.QueueRule.rule b.rule.rule in
     let e = c.args.entry.now in
     let L = g.C.Centre.lines c.args.centre.now in
-    by_lines (g.C.Centre.own c.args.centre.now) (state_of b) L e (walk_of R (state_of b) e) c.in_default.ensures c.plan-plan.result c.plan-plan.ensures c.in_default-walk_refusal.ensures
-    (plan_lines R (state_of b) L e c.plan-plan.result c.plan-plan.ensures c.other.result c.other.ensures _ c.if-out_of_step.ensures)
+    by_lines (g.C.Centre.own c.args.centre.now) (state_of b) L e (walk_of R (state_of b) e) (allowed_yes _ _ (sym c.in_ok-check_terms.ensures)) c.plan-plan.result c.plan-plan.ensures.plans (allowed_yes _ _ (sym c.in_ok-check_walk.ensures))
+    (plan_lines R (state_of b) L e c.plan-plan.result c.plan-plan.ensures.plans c.other.result c.other.ensures _ c.if-out_of_step.ensures)
 
-pub returns-in-Ok : goal.returns-in-Ok
-returns-in-Ok g c =
+pub returns-in_err-map_err : goal.returns-in_err-map_err
+returns-in_err-map_err g c =
     let b = c.args.self.now in
-    let R : Rule = rule_of (g.R.QueueRule.stands b.rule.rule) (g.R.QueueRule.meets b.rule.rule) in
+    let R = g.R.QueueRule.rule b.rule.rule in
     let e = c.args.entry.now in
     let C = g.C.Centre.own c.args.centre.now in
     let L = g.C.Centre.lines c.args.centre.now in
     let fa : SFits w64 e.account = search rules in
-    let asked = ap₂ (λ a n. answered (verdict C L a e.side n)) (to_z-of_z w64 e.account fa) c.entry_lots-lots.ensures in (
-      by_centre C (state_of b) L e (walk_of R (state_of b) e) c.in_default.ensures c.plan-plan.result c.plan-plan.ensures c.in_default-walk_refusal.ensures
-          (plan_lines R (state_of b) L e c.plan-plan.result c.plan-plan.ensures c.other.result c.other.ensures _ c.if-out_of_step.ensures)
-          ∙ answered_yes (verdict C L e.account e.side (entry_lots e)) c.in-Ok.field-0 (c.in-Ok.ensures ∙ asked),
-      c.plan-plan.ensures,
+    let asked = c.question.ensures ∙ ap₂ (λ a n. answered (verdict C L a e.side n)) (to_z-of_z w64 e.account fa) c.entry_lots-lots.ensures in
+    let part = centre_part (verdict C L e.account e.side (entry_lots e)) c.question.result c.map_err.result asked (MatchResult-weaker c.question.result c.map_err.ensures.cases (λ x h. h) (λ d h. search rules)) in
+    let p = err_from_is_err_and c.from_residual-in_err-map_err.result c.from_residual-in_err-map_err.ensures.1 in
+    rw (p.1, p.2) (by_centre C (state_of b) L e (walk_of R (state_of b) e) (allowed_yes _ _ (sym c.in_ok-check_terms.ensures)) c.plan-plan.result c.plan-plan.ensures.plans (allowed_yes _ _ (sym c.in_ok-check_walk.ensures))
+    (plan_lines R (state_of b) L e c.plan-plan.result c.plan-plan.ensures.plans c.other.result c.other.ensures _ c.if-out_of_step.ensures)
+    ∙ sym (allowed_no _ _ (sym part ∙ c.in_err-map_err.was)))
+
+pub returns : goal.returns
+returns g c =
+    let b = c.args.self.now in
+    let R = g.R.QueueRule.rule b.rule.rule in
+    let e = c.args.entry.now in
+    let C = g.C.Centre.own c.args.centre.now in
+    let L = g.C.Centre.lines c.args.centre.now in
+    let fa : SFits w64 e.account = search rules in
+    let asked = c.question.ensures ∙ ap₂ (λ a n. answered (verdict C L a e.side n)) (to_z-of_z w64 e.account fa) c.entry_lots-lots.ensures in
+    let part = centre_part (verdict C L e.account e.side (entry_lots e)) c.question.result c.map_err.result asked (MatchResult-weaker c.question.result c.map_err.ensures.cases (λ x h. h) (λ d h. search rules)) in (
+      by_centre C (state_of b) L e (walk_of R (state_of b) e) (allowed_yes _ _ (sym c.in_ok-check_terms.ensures)) c.plan-plan.result c.plan-plan.ensures.plans (allowed_yes _ _ (sym c.in_ok-check_walk.ensures))
+          (plan_lines R (state_of b) L e c.plan-plan.result c.plan-plan.ensures.plans c.other.result c.other.ensures _ c.if-out_of_step.ensures)
+          ∙ sym (allowed_yes _ _ (sym part ∙ c.in_ok-map_err.was)),
+      c.plan-plan.ensures.plans,
     )
-
-pub returns-in-Err : goal.returns-in-Err
-returns-in-Err g c =
-    let b = c.args.self.now in
-    let R : Rule = rule_of (g.R.QueueRule.stands b.rule.rule) (g.R.QueueRule.meets b.rule.rule) in
-    let e = c.args.entry.now in
-    let C = g.C.Centre.own c.args.centre.now in
-    let L = g.C.Centre.lines c.args.centre.now in
-    let fa : SFits w64 e.account = search rules in
-    let asked = ap₂ (λ a n. answered (verdict C L a e.side n)) (to_z-of_z w64 e.account fa) c.entry_lots-lots.ensures in
-    by_centre C (state_of b) L e (walk_of R (state_of b) e) c.in_default.ensures c.plan-plan.result c.plan-plan.ensures c.in_default-walk_refusal.ensures
-    (plan_lines R (state_of b) L e c.plan-plan.result c.plan-plan.ensures c.other.result c.other.ensures _ c.if-out_of_step.ensures)
-    ∙ answered_no (verdict C L e.account e.side (entry_lots e)) c.in-Err.denial (c.in-Err.ensures ∙ asked)

@@ -9,7 +9,7 @@ pub invariant_of-self : goal.invariant_of-self
 invariant_of-self g c =
     let b = c.args.self.now in
     record {
-      bought = subst (λ q. all_on Buy q ≡ true) (sym c.lower.ensures.lowered) (all_on_lowered_at Buy c.args.place.at c.args.lots b.buys.orders.items b.bought);
+      bought = subst (λ q. all_on Buy q ≡ true) (sym c.lower.ensures.lowered) (all_on_lowered_at Buy c.args.place.at c.args.lots b.buys.orders b.bought);
       sold = b.sold;
     }
 
@@ -18,5 +18,5 @@ invariant_of-self-in-Sell g c =
     let b = c.args.self.now in
     record {
       bought = b.bought;
-      sold = subst (λ q. all_on Sell q ≡ true) (sym c.lower-in-Sell.ensures.lowered) (all_on_lowered_at Sell c.args.place.at c.args.lots b.sells.orders.items b.sold);
+      sold = subst (λ q. all_on Sell q ≡ true) (sym c.lower-in-Sell.ensures.lowered) (all_on_lowered_at Sell c.args.place.at c.args.lots b.sells.orders b.sold);
     }

@@ -13,7 +13,7 @@ returns-in-Some g c =
     let b = c.args.self.now in
     let i = c.in-Some.at in
     named_buy (state_of b) c.args.number i b.bought
-    (passed (λ z. Found (λ (o : Order). pos o.number) b.buys.orders.items z (Some i)) _ c.ranges.number c.in-Some.ensures)
+    (passed (λ z. Found (λ (o : Order). pos o.number) b.buys.orders z (Some i)) _ c.ranges.number c.in-Some.ensures)
 
 pub returns-in_err-at : goal.returns-in_err-at
 returns-in_err-at g c =

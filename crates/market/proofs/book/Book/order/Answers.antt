@@ -8,15 +8,14 @@ use Rattle.market.proofs.book.Book.order.Goals as goal
 
 pub offset_bounds-as_slice-place : goal.offset_bounds-as_slice-place
 offset_bounds-as_slice-place g c =
-    let few = c.queue.result.now.few in
-    let len = c.queue.result.now.orders.ok.0 in
+    let few = c.as_slice.ensures.few in
     let long = ap length c.queue.ensures in
     let within = (c.requires.found any_order).0 in
     omega arith
 
 pub bounds-as_slice-place : goal.bounds-as_slice-place
 bounds-as_slice-place g c =
-    let long = ap length (c.as_slice.ensures ∙ c.queue.ensures) in
+    let long = ap length (c.as_slice.ensures.orders ∙ c.queue.ensures) in
     let within = (c.requires.found any_order).0 in
     omega arith
 
@@ -24,4 +23,4 @@ pub returns : goal.returns
 returns g c d =
     let i = c.args.place.at in
     let q = queue_of c.args.place.side (state_of c.args.self.now) in
-    ap (λ l. get_or l i any_order) (c.as_slice.ensures ∙ c.queue.ensures) ∙ get_or_default q i any_order d (c.requires.found d).0
+    ap (λ l. get_or l i any_order) (c.as_slice.ensures.orders ∙ c.queue.ensures) ∙ get_or_default q i any_order d (c.requires.found d).0

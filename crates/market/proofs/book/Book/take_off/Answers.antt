@@ -17,8 +17,8 @@ overflow_sub-figures g c =
     let enough = c.requires.enough any_order in
     omega arith
 
-pub lower-grant-requires : goal.lower-grant-requires
-lower-grant-requires g c = record { within = (c.requires.placed.found any_order).0; enough = c.requires.enough }
+pub lower-grant-requires-clause-within : goal.lower-grant-requires-clause-within
+lower-grant-requires-clause-within g c = (c.requires.placed.found any_order).0
 
 pub give_back-requires : goal.give_back-requires
 give_back-requires g c =
@@ -26,19 +26,12 @@ give_back-requires g c =
     subst (λ (x : Grant). holds (L x.account) x.side x.lots ≡ true) (sym (c.lower-grant.ensures.grant any_order))
     (held_there (state_of c.args.self.now) L c.args.place c.args.lots c.requires.placed any_order (c.requires.enough any_order) (c.requires.in_step any_order))
 
-pub returns : goal.returns
-returns g c =
+pub returns-clause-taken : goal.returns-clause-taken
+returns-clause-taken g c d =
     let L = g.C.Centre.lines c.args.centre.now in
-    let n = c.args.lots in
-    let back = c.give_back.ensures in
-    record {
-      taken = λ d. (
-        ap (λ m. figures_of c.order-order.result.now.number 0 (m - n) n) c.lots.ensures
-            ∙ ap (λ (o : Order). figures_of o.number 0 (lots_of o - n) n) (c.order-order.ensures d),
-        taken_there (state_of c.args.self.now) L c.args.place n c.requires.placed d (state_of c.lower-grant.new.self) (g.C.Centre.lines c.give_back.new.centre) c.lower-grant.ensures.state
-            (back.lines ∙ ap (λ (x : Grant). adjusted L x.account (release x.side x.lots)) (c.lower-grant.ensures.grant d)),
-      );
-      rule = c.lower-grant.ensures.rule;
-      settings = back.settings;
-      layers = back.layers;
-    }
+    let n = c.args.lots in (
+      ap (λ m. figures_of c.order-order.result.now.number 0 (m - n) n) c.lots.ensures
+          ∙ ap (λ (o : Order). figures_of o.number 0 (lots_of o - n) n) (c.order-order.ensures d),
+      taken_there (state_of c.args.self.now) L c.args.place n c.requires.placed d (state_of c.lower-grant.new.self) (g.C.Centre.lines c.give_back.new.centre) c.lower-grant.ensures.state
+          (c.give_back.ensures.lines ∙ ap (λ (x : Grant). adjusted L x.account (release x.side x.lots)) (c.lower-grant.ensures.grant d)),
+    )

@@ -1,25 +1,18 @@
 -- The book's call is as defined, and so keeps the law.
 use Rattle.market.proofs.Runs.{call_keeps_the_law}
 use Rattle.market.specs.BookState.{state_of}
-use Rattle.market.specs.Rule.{Lawful, Rule, rule_of}
+use Rattle.market.specs.Rule.{Lawful}
 use Rattle.market.proofs.market.Market.call.Goals as goal
 
-pub returns : goal.returns
-returns g c =
+pub returns-clause-law : goal.returns-clause-law
+returns-clause-law g c =
     let m = c.args.self.now in
     let rule = m.book.rule.rule in
-    let R : Rule = rule_of (g.R.QueueRule.stands rule) (g.R.QueueRule.meets rule) in
+    let R = g.R.QueueRule.rule rule in
     let lawful : Lawful R = record {
       irreflexive = g.met.R.QueueRule.irreflexive rule;
       transitive = g.met.R.QueueRule.transitive rule;
       decided = g.met.R.QueueRule.decided rule;
       meeting = g.met.R.QueueRule.meeting rule;
     } in
-    let e = c.call.ensures in
-    record {
-      answered = e.answered;
-      law = call_keeps_the_law R lawful (g.C.Centre.own m.centre) (state_of m.book) (g.C.Centre.lines m.centre) c.args.call _ _ _ e.answered;
-      rule = e.rule;
-      settings = e.settings;
-      layers = e.layers;
-    }
+    call_keeps_the_law R lawful (g.C.Centre.own m.centre) (state_of m.book) (g.C.Centre.lines m.centre) c.args.call _ _ _ c.call.ensures.answered

@@ -5,12 +5,8 @@ use Rattle.market.proofs.queue.Queue.lower.Goals as goal
 
 pub leave-requires : goal.leave-requires
 leave-requires c =
-    let long = ap length (c.call_up-grant.ensures.lowered any_order) ∙ length-set c.args.self.now.orders.items c.args.at _ in
+    let long = ap length (c.call_up-grant.ensures.lowered any_order) ∙ length-set c.args.self.now.orders c.args.at _ in
     omega (arith, c.requires.within, long)
 
-pub returns : goal.returns
-returns c =
-    record {
-      grant = c.call_up-grant.ensures.grant;
-      lowered = lowered_then_cleared c.args.self.now.orders.items _ _ c.args.at c.args.lots c.requires.within (c.call_up-grant.ensures.lowered any_order) (c.leave.ensures any_order);
-    }
+pub returns-clause-lowered : goal.returns-clause-lowered
+returns-clause-lowered c = lowered_then_cleared c.args.self.now.orders _ _ c.args.at c.args.lots c.requires.within (c.call_up-grant.ensures.lowered any_order) (c.leave.ensures any_order)
