@@ -93,7 +93,9 @@ pub fn line(counts: [u64; 4]) -> Line {
 }
 
 // What is seen of each watched account.
-pub fn watched<T>(see: impl Fn(i64) -> T) -> [T; WATCHED] {
+pub fn watched<T, F: Fn(i64) -> T>(see: F) -> [T; WATCHED]
+    requires { F.IsAlwaysCallable see }
+{
     array::from_fn(|account| see(account as i64))
 }
 

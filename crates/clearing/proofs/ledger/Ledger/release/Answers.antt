@@ -1,14 +1,10 @@
 -- The row is the one that was there, with the lots let go.
-use Rattle.std.proofs.Common.{◌≤◌, Ok, subst, sym}
+use Rattle.std.proofs.Common.{Ok}
 use Rattle.clearing.specs.Ledger.{Holder}
-use Rattle.clearing.specs.Line.{on, release}
+use Rattle.clearing.specs.Line.{release}
 use Rattle.clearing.proofs.Ledgers.{adjusted_row, still_in_order}
 use Rattle.clearing.proofs.Passed.{passed}
 use Rattle.clearing.proofs.ledger.Ledger.release.Goals as goal
-
-pub release-requires : goal.release-requires
-release-requires c =
-    subst (λ x. c.args.lots ≤ (on c.args.side x.line).held) (sym c.item_mut.ensures.value) (c.in_ok-at.ensures.2 c.item_mut.result.now)
 
 pub invariant_of-self : goal.invariant_of-self
 invariant_of-self c =

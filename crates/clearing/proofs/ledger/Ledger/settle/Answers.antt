@@ -1,14 +1,10 @@
 -- The row is the one that was there, with the lots settled.
-use Rattle.std.proofs.Common.{◌≤◌, Ok, subst, sym}
+use Rattle.std.proofs.Common.{Ok}
 use Rattle.clearing.specs.Ledger.{Holder}
-use Rattle.clearing.specs.Line.{on, settle}
+use Rattle.clearing.specs.Line.{settle}
 use Rattle.clearing.proofs.Ledgers.{adjusted_row, still_in_order}
 use Rattle.clearing.proofs.Passed.{passed}
 use Rattle.clearing.proofs.ledger.Ledger.settle.Goals as goal
-
-pub settle-requires : goal.settle-requires
-settle-requires c =
-    subst (λ x. c.args.lots ≤ (on c.args.side x.line).held) (sym c.item_mut.ensures.value) (c.in_ok-at.ensures.2 c.item_mut.result.now)
 
 pub invariant_of-self : goal.invariant_of-self
 invariant_of-self c =
