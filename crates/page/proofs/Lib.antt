@@ -5,6 +5,5 @@ pub mod Lines
 pub mod OneCall
 pub mod OneLine
 pub mod Printing
-pub mod Reading
 pub mod Shared
 pub mod TextLines

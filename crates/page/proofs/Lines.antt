@@ -1,16 +1,16 @@
 -- What printing and reading back come to, case by case. Assumes nothing.
-use Rattle.std.proofs.Common.{◌≡◌, ℕ, zero, suc, ◌+◌, ◌-◌, ◌<◌, ◌≤◌, Bool, true, false, cond, List, [], ◌∷◌, ◌++◌, length, get_or, take, drop, set, is_err, is_some, Some, None, Ok, Err, Option, sym, refl, ap, ◌∙◌, append_assoc, append-nil, arith}
+use Rattle.std.proofs.Common.{◌≡◌, ℕ, zero, suc, ◌+◌, ◌-◌, ◌≤◌, Bool, true, false, cond, List, [], ◌∷◌, ◌++◌, length, get_or, take, drop, set, is_err, is_some, Some, None, Ok, Err, Option, sym, refl, ap, ◌∙◌, append_assoc, append-nil, arith}
 use borrow.Rule.Slice.PartMut.{put_mid}
 use Rattle.std.specs.Option.{option_map, ok_or}
 use Rattle.std.specs.Str.{bytes_eq}
 use Rattle.std.proofs.lemmas.List.{drop_all, drop_at, drop-drop, drop-take, drop_more, length-append, length-drop, set_at, take_all, take-append-drop, take_at}
 use Rattle.std.proofs.lemmas.Slice.{drop-put_mid, take-put_mid}
-use Rattle.std.proofs.lemmas.Bool.{cond-false, cond-true, false≢true, le-ltb, lt-ltb, true≢false}
+use Rattle.std.proofs.lemmas.Bool.{cond-false, false≢true, le-ltb, true≢false}
 use Rattle.clearing.specs.declared.cause.Denial.{Denial}
 use Rattle.dealing.specs.Replies.{Reply, place, reply_number}
 use Rattle.dealing.specs.declared.outcome.Figures.{Figures}
 use Rattle.dealing.specs.declared.outcome.Outcome.TheVariants.{Opened}
-use Rattle.dealing.specs.declared.refusal.Refusal.TheVariants.{LineTooShort, NotPrintable}
+use Rattle.dealing.specs.declared.refusal.Refusal.TheVariants.{NotPrintable}
 use Rattle.page.specs.declared.printed.Column.{Column}
 use Rattle.page.specs.declared.printed.PageLine.{PageLine}
 use Rattle.page.specs.Columns.{across, all_fit, column, numeral, width_of}
@@ -40,9 +40,6 @@ line_written front row out lf lr room =
     ++ (drop-put_mid 46 40 (front ++ 32 ∷ drop 46 out) row 86 (omega arith) (omega arith) lr ∙ last) i)
 
 module _ (ps : List (List ℕ)) (l : PageLine) where
-  pub short_result : (n : ℕ) → n < 86 → print_result ps l n ≡ Err LineTooShort
-  short_result n h = cond-true _ _ _ (lt-ltb n 86 h)
-
   long_result : (n : ℕ) → 86 ≤ n → print_result ps l n ≡ ok_or (printed ps l) NotPrintable
   long_result n h = cond-false _ _ _ (le-ltb n 86 h)
 

@@ -1,10 +1,9 @@
 -- Phrases that stand twice, and what a text without them gives. Assumes nothing.
-use Rattle.std.proofs.Common.{◌≡◌, ℕ, zero, suc, ◌+◌, ◌-◌, ◌<◌, Bool, true, false, List, [], ◌∷◌, ◌++◌, length, get_or, drop, replicate, Some, None, Ok, Err, Option, Result, sym, refl, ap, ◌∙◌, subst, add-one, arith}
+use Rattle.std.proofs.Common.{◌≡◌, ℕ, zero, suc, ◌+◌, ◌-◌, ◌<◌, Bool, true, false, List, [], ◌∷◌, ◌++◌, length, get_or, drop, replicate, Some, None, Ok, Err, Option, Result, sym, refl, ap, ◌∙◌, subst, arith}
 use Rattle.std.specs.Str.{bytes_eq}
 use Rattle.std.proofs.lemmas.Slice.Eq.{bytes_eq-Decides}
 use Rattle.std.specs.List.{AllWithin, HoldsAt}
-use Rattle.std.proofs.lemmas.List.{at_drop_more, drop-map, get_or-drop, get_or-map, get_or_default, length-drop}
-use Rattle.std.proofs.lemmas.Bool.{cond-false, cond-true}
+use Rattle.std.proofs.lemmas.List.{drop-map, get_or-drop, get_or-map, get_or_default, length-drop}
 use Rattle.std.proofs.lemmas.Bool.Decides.{Decides-like, same_from_decides}
 use Rattle.page.specs.declared.table.text.TextFault.{TextFault}
 use Rattle.page.specs.declared.table.text.Flaw.{Flaw}
@@ -53,16 +52,6 @@ module _ (rows : List (List ℕ)) (wide : AllWide rows) (i : ℕ) (within : i < 
       ∙ first_place (λ r. bytes_eq (get_or (phrases rows) i []) (trimmed r)) (λ k rs. twin k (get_or (phrases rows) i []) (phrases rs)) (λ _. refl) (λ _ _ _. refl) (i + 1) (drop (i + 1) rows) j l
       (later_test true j l here)
       (λ m d a b. later_test false m (omega arith) (λ d. none m d a b) d)
-
-module _ (ps : List (List ℕ)) (k : ℕ) (within : k < length ps) where
-  shared_next : shared_pair k (drop k ps) ≡ or_later k (twin (k + 1) (get_or ps k []) (drop (k + 1) ps)) (shared_pair (k + 1) (drop (k + 1) ps))
-  shared_next = at_drop_more (shared_pair k) ps k [] within ∙ ap (λ n. or_later k (twin n (get_or ps k []) (drop (k + 1) ps)) (shared_pair n (drop (k + 1) ps))) (sym (add-one k))
-
-  pub shared_stop : (j : ℕ) → twin (k + 1) (get_or ps k []) (drop (k + 1) ps) ≡ Some j → shared_pair k (drop k ps) ≡ Some (k, j)
-  shared_stop j e = shared_next ∙ ap (λ o. or_later k o (shared_pair (k + 1) (drop (k + 1) ps))) e
-
-  pub shared_step : twin (k + 1) (get_or ps k []) (drop (k + 1) ps) ≡ None → shared_pair (k + 1) (drop (k + 1) ps) ≡ shared_pair k (drop k ps)
-  shared_step e = sym (shared_next ∙ ap (λ o. or_later k o (shared_pair (k + 1) (drop (k + 1) ps))) e)
 
 untwinned : (k : ℕ) (p : List ℕ) (qs : List (List ℕ)) → twin k p qs ≡ None → (j : ℕ) → j < length qs → bytes_eq p (get_or qs j []) ≡ false
 untwinned k p [] e j h = absurd (omega arith)

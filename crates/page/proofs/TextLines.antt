@@ -1,13 +1,13 @@
 -- The lines of a phrase text, one after the other. Assumes nothing.
 use Rattle.std.proofs.Common.{◌≡◌, ℕ, zero, suc, ◌+◌, ◌-◌, ◌<◌, ◌≤◌, Bool, true, false, cond, ◌||◌, eqb, ltb, List, [], ◌∷◌, ◌++◌, length, get_or, take, drop, set, Some, None, Ok, Err, Option, Result, sym, refl, ap, ◌∙◌, subst, ⊎_elim, add-one, arith}
 use Rattle.std.specs.Option.{option_map}
-use Rattle.std.proofs.lemmas.List.{at_drop_more, get_or-set_other, get_or-set_same, length-set, map_push, take_more_set}
-use Rattle.std.proofs.lemmas.Bool.{cases_eq, cond-false, cond-true, eq-eqb, eqb-false, le-ltb, lt-ltb, ltb-false, ne_eqb, or_parts}
+use Rattle.std.proofs.lemmas.List.{get_or-set_other, get_or-set_same, length-set, map_push, take_more_set}
+use Rattle.std.proofs.lemmas.Bool.{cases_eq, cond-false, cond-true, eq-eqb, eqb-false, ltb-false, ne_eqb, or_parts}
 use Rattle.page.specs.declared.table.text.Flaw.{Flaw}
 use Rattle.page.specs.declared.table.text.Flaw.TheVariants.{Surplus}
 use Rattle.page.specs.declared.table.text.TextFault.{TextFault}
 use Rattle.page.specs.declared.table.text.TextFault.TheVariants.{Unsound}
-use Rattle.page.specs.PhraseText.{before, first_line, flaw_of, has_low, judged, line_flaw, lines, unended, with_line}
+use Rattle.page.specs.PhraseText.{before, first_line, flaw_of, judged, line_flaw, lines, with_line}
 use Rattle.page.specs.Phrases.{AllWide, ends_blank, filled, phrases, trimmed}
 use Rattle.page.proofs.Filled.{trimmed_filled}
 use Rattle.page.proofs.OneLine.{nothing}
@@ -19,13 +19,6 @@ ends_blank_last (b ∷ []) h = refl
 ends_blank_last (b ∷ c ∷ cs) h =
     let same : suc (suc (length cs)) - 1 ≡ suc (suc (length cs) - 1) = omega arith in
     ends_blank_last (c ∷ cs) (omega arith) ∙ ap (λ k. eqb (get_or (b ∷ c ∷ cs) k 0) 32) (sym same)
-
-module _ (xs : List ℕ) (i : ℕ) (within : i < length xs) where
-  pub low_stop : get_or xs i 0 < 32 → has_low (drop i xs) ≡ true
-  low_stop h = at_drop_more has_low xs i 0 within ∙ ap (λ t. t || has_low (drop (i + 1) xs)) (lt-ltb _ 32 h)
-
-  pub low_step : 32 ≤ get_or xs i 0 → has_low (drop (i + 1) xs) ≡ has_low (drop i xs)
-  low_step h = sym (at_drop_more has_low xs i 0 within ∙ ap (λ t. t || has_low (drop (i + 1) xs)) (le-ltb _ 32 h))
 
 -- the first byte 10 ends the first line
 pub line_ends : (xs : List ℕ) (i : ℕ) → i < length xs → get_or xs i 0 ≡ 10 → ((k : ℕ) → k < i → get_or xs k 0 ≡ 10 → ⊥) → first_line xs ≡ Some (take i xs, drop (suc i) xs)

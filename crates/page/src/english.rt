@@ -37,6 +37,7 @@ Market resumed
 Market opened
 ";
 
+#[tactic(auto, unfolding(crate::specs::PhraseText::all_lines, crate::specs::English::english_phrases))]
 pub fn english() -> PhraseTable
     ensures { phrases result.rows ≡ english_phrases }
 {

@@ -17,17 +17,11 @@ const SUSPEND: &[u8; 37] = b"H                                    ";
 const RESUME: &[u8; 37] = b"G                                    ";
 
 fn reads(line: &[u8], call: Call) -> bool {
-    match read(line) {
-        Ok(found) => found == call,
-        Err(_) => false,
-    }
+    read(line) == Ok(call)
 }
 
 fn refused(line: &[u8], refusal: Refusal) -> bool {
-    match read(line) {
-        Ok(_) => false,
-        Err(found) => found.number() == refusal.number(),
-    }
+    read(line) == Err(refusal)
 }
 
 #[test]

@@ -49,10 +49,8 @@ fn goes_round(table: &PhraseTable, line: PageLine) -> bool {
     if table.print(&line, &mut out).is_err() {
         return false;
     }
-    for b in &out[86..200] {
-        if *b != 0xaa {
-            return false;
-        }
+    if !out[86..].iter().all(|&b| b == 0xaa) {
+        return false;
     }
     match table.read_back(&out) {
         Ok(found) => found.number == line.number && found.reply == line.reply,
@@ -62,12 +60,9 @@ fn goes_round(table: &PhraseTable, line: PageLine) -> bool {
 
 fn all_go_round(number: u64, figures: Figures, denial: Denial) -> bool {
     let table = english();
-    for reply in replies(figures, denial) {
-        if !goes_round(&table, PageLine { number, reply }) {
-            return false;
-        }
-    }
-    true
+    replies(figures, denial)
+        .iter()
+        .all(|&reply| goes_round(&table, PageLine { number, reply }))
 }
 
 const LARGEST: Figures = Figures {
@@ -108,20 +103,7 @@ fn is_refused(line: PageLine, len: usize, refusal: Refusal) -> bool
     requires { len ≤ 200 }
 {
     let mut out = [0xaa; 200];
-    match english().print(&line, &mut out[0..len]) {
-        Ok(()) => return false,
-        Err(found) => {
-            if found != refusal {
-                return false;
-            }
-        }
-    }
-    for b in &out {
-        if *b != 0xaa {
-            return false;
-        }
-    }
-    true
+    english().print(&line, &mut out[0..len]) == Err(refusal) && out.iter().all(|&b| b == 0xaa)
 }
 
 #[test]

@@ -24,17 +24,11 @@ fn text(heap: Global, lines: u8, at: u8, line: &[u8]) -> Result<Vec<u8>, AllocEr
 }
 
 fn flawed(text: &[u8], line: usize, flaw: Flaw) -> bool {
-    match PhraseTable::from_text(text) {
-        Ok(_) => false,
-        Err(fault) => fault == TextFault::Unsound { line, flaw },
-    }
+    PhraseTable::from_text(text).err() == Some(TextFault::Unsound { line, flaw })
 }
 
 fn shares(text: &[u8], first: usize, second: usize) -> bool {
-    match PhraseTable::from_text(text) {
-        Ok(_) => false,
-        Err(fault) => fault == TextFault::Shared { first, second },
-    }
+    PhraseTable::from_text(text).err() == Some(TextFault::Shared { first, second })
 }
 
 #[test]

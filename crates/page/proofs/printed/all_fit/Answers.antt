@@ -1,4 +1,4 @@
-use Rattle.std.proofs.Common.{◌≡◌, ◌^◌, ◌≤◌, ◌&&◌, ltb, leb, sym, refl, ◌∙◌, subst, arith, rules, tests}
+use Rattle.std.proofs.Common.{◌^◌, ◌≤◌, ◌&&◌, ltb, leb, sym, refl, ◌∙◌, subst, arith, rules, tests}
 use Rattle.std.specs.List.{list_all}
 use Rattle.std.proofs.lemmas.Bool.{leb-true}
 use Rattle.std.proofs.lemmas.Iterator.{YieldsList-from_slice}
