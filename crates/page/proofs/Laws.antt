@@ -5,9 +5,6 @@ use Rattle.std.specs.Str.{bytes_eq}
 use Rattle.std.proofs.lemmas.Slice.Eq.{bytes_eq-Decides}
 use Rattle.std.proofs.lemmas.List.{drop_at, length-append, take_at}
 use Rattle.std.proofs.lemmas.Bool.{and_from, and_parts, cases_Bool, cases_order, cond-false, cond-true, eqb-true, false≢true, le-leb, ltb-true, true≢false}
-use Rattle.clearing.specs.Cause.{cause_number}
-use Rattle.clearing.specs.declared.cause.Cause.{Cause}
-use Rattle.clearing.specs.declared.cause.Cause.TheVariants.{NoLine, OutOfRange, CentreRule, OverFirmCap, NotHeld, BadSetting}
 use Rattle.clearing.specs.declared.cause.Denial.{Denial}
 use Rattle.dealing.specs.Replies as replies-spec
 use Rattle.dealing.specs.Replies.{Reply, owners, place, reply_number}
@@ -17,6 +14,7 @@ use Rattle.page.specs.declared.printed.Column.{Column}
 use Rattle.page.specs.declared.printed.PageLine.{PageLine}
 use Rattle.page.specs.Columns.{across, all_fit, column, digit_of, leading, numeral}
 use Rattle.page.specs.Phrases.{Table, filled, found_from}
+use Rattle.page.proofs.Causes.{cause_told}
 use Rattle.page.specs.Printed.{PhraseTells, PrintedReadsBack, ReadBackPrints, candidate, cause_numbered, cause_of, confirmed, denial_of, depth_of, figures_of, guess, layout, number_at, placed_line, printed, read_back, replies, same_line}
 use Rattle.page.proofs.Filled.{filled-length, same_filled}
 use Rattle.page.proofs.Lines.{across-length, placed_read}
@@ -75,14 +73,6 @@ columns_read (c ∷ cs) k before after l fit =
 -- the cause and the depth that a reply prints
 denial_printed : Reply → Denial
 denial_printed r = record { cause = cause_numbered (cause_of (denial_of r)); depth = depth_of (denial_of r) }
-
-cause_told : (c : Cause) → cause_numbered (cause_number c) ≡ c
-cause_told NoLine = refl
-cause_told OutOfRange = refl
-cause_told CentreRule = refl
-cause_told OverFirmCap = refl
-cause_told NotHeld = refl
-cause_told BadSetting = refl
 
 told_at : (r : Reply) (i k : ℕ) → Some k ≡ Some i → get_or (replies (figures_of r) (denial_printed r)) k (Ok Opened) ≡ r → get_or (replies (figures_of r) (denial_printed r)) i (Ok Opened) ≡ r
 told_at r i k e h = ap (λ j. get_or (replies (figures_of r) (denial_printed r)) j (Ok Opened)) (sym (some_same k i e)) ∙ h

@@ -1,3 +1,4 @@
+pub mod Causes
 pub mod Filled
 pub mod FirstPlace
 pub mod Laws

@@ -144,17 +144,11 @@ fn numeral(bytes: &[u8]) -> u64
     n
 }
 
-fn cause_numbered(n: u64) -> Cause
+// The cause with a number; what is no cause's number stands for the last.
+fn cause_numbered(n: u8) -> Cause
     ensures { result ≡ cause_numbered n }
 {
-    match n {
-        1 => Cause::NoLine,
-        2 => Cause::OutOfRange,
-        3 => Cause::CentreRule,
-        4 => Cause::OverFirmCap,
-        5 => Cause::NotHeld,
-        _ => Cause::BadSetting,
-    }
+    Cause::try_from(n).unwrap_or(Cause::BadSetting)
 }
 
 // The reply whose phrase stands at a place, with the numbers that may go with it.
@@ -209,7 +203,7 @@ fn denial_at(bytes: &[u8; LINE]) -> Denial
     ensures { result ≡ denial_at bytes.now }
 {
     Denial {
-        cause: cause_numbered(numeral(&bytes[10..12])),
+        cause: cause_numbered(numeral(&bytes[10..12]) as u8),
         depth: numeral(&bytes[12..14]) as u8,
     }
 }
