@@ -25,9 +25,9 @@ const LIMIT: u64 = 50;
 fn centre(heap: Global) -> anyhow::Result<PositionCentre> {
     let mut centre = AccountCentre::new(heap, Position)?;
     for account in [101, 102, 103] {
-        if centre.add(account, LIMIT).is_err() {
-            return Err(anyhow!("the centre takes no such account"));
-        }
+        centre
+            .add(account, LIMIT)
+            .map_err(|_| anyhow!("the centre takes no such account"))?;
     }
     Ok(centre)
 }
