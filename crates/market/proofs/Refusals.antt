@@ -1,8 +1,6 @@
 -- The refusals of an entry, stage by stage. Assumes nothing.
-use Rattle.std.proofs.Common.{◌≡◌, ℕ, suc, ◌≤◌, Bool, true, false, cond, ◌||◌, List, [], ◌∷◌, ◌++◌, length, take, Some, None, Ok, Err, Option, Result, sym, refl, ap, ◌∙◌, ap₂, suc-le-suc, zero-le, arith}
+use Rattle.std.proofs.Common.{◌≡◌, ℕ, suc, ◌≤◌, Bool, true, false, cond, ◌||◌, List, [], ◌∷◌, ◌++◌, length, take, Some, None, Ok, Err, Option, sym, refl, ap, ◌∙◌, ap₂, suc-le-suc, zero-le, arith}
 use Rattle.std.proofs.lemmas.Bool.{cond-false, cond-true}
-use Rattle.std.specs.Result.{MatchResult}
-use Rattle.std.proofs.lemmas.Result.{MatchResult-at_err, MatchResult-at_ok}
 use Rattle.clearing.specs.Centre.{Lines, Own, answered, verdict}
 use Rattle.clearing.specs.Side.{other}
 use Rattle.clearing.specs.declared.cause.Denial.{Denial}
@@ -103,9 +101,13 @@ module _ (C : Own) (S : State) (L : Lines) (e : Entry) (w : Walked) where
       by_centre t = after_walk ∙ ap (λ o. or_else o judged) (cond-false _ _ _ t)
 
 -- what the centre answers is its part of the refusals
-pub centre_part : (v : Option Denial) (q : Result (Unit {0}) Denial) (m : Result (Unit {0}) Refusal) → q ≡ answered v → MatchResult q (λ x. m ≡ Ok x) (λ d. m ≡ Err (CentreDenies d)) → m ≡ allowed (centre_denies v)
-centre_part None q m e cases = MatchResult-at_ok _ _ tt e cases
-centre_part (Some d) q m e cases = MatchResult-at_err _ _ d e cases
+pub centre_no : (v : Option Denial) (d : Denial) → Err d ≡ answered v → Some (CentreDenies d) ≡ centre_denies v
+centre_no None d e = absurd (let z : ◌≡◌ {A = ℕ} 0 1 = cc in omega arith)
+centre_no (Some x) d e = cc
+
+pub centre_yes : (v : Option Denial) (x : Unit {0}) → Ok x ≡ answered v → None ≡ centre_denies v
+centre_yes None x e = refl
+centre_yes (Some d) x e = absurd (let z : ◌≡◌ {A = ℕ} 0 1 = cc in omega arith)
 
 -- the orders that were looked at are those that the planned walk trades with
 pub plan_lines : (R : Rule) (S : State) (L : Lines) (e : Entry) (p : Plan) → Plans p (walk_of R S e) → (z : Side) → z ≡ other e.side → (b : Bool) → b ≡ orders_out_of_step S L z (take p.trades (queue_of z S)) → trades_out_of_step S L (other e.side) (walk_of R S e).trades ≡ b

@@ -1,5 +1,5 @@
 -- Queues whose orders are all of one side stay so. Assumes nothing.
-use Rattle.std.proofs.Common.{◌≡◌, ℕ, Bool, true, eqb, leb, List, [], ◌∷◌, ◌++◌, refl, ap, ◌∙◌, inl, inr}
+use Rattle.std.proofs.Common.{◌≡◌, ℕ, Bool, true, eqb, leb, List, [], ◌∷◌, ◌++◌, refl, ap, ◌∙◌}
 use Rattle.std.proofs.lemmas.Bool.{and_from, and_parts, cond_both, false≢true}
 use Rattle.ordered.specs.Row.{place}
 use Rattle.ordered.proofs.Orders.{all_pass_inserted}
@@ -7,7 +7,6 @@ use Rattle.clearing.specs.declared.side.Side.{Side}
 use Rattle.clearing.specs.declared.side.Side.TheVariants.{Buy, Sell}
 use Rattle.dealing.specs.declared.call.Entry.{Entry}
 use Rattle.market.proofs.Walking.{walk_induction}
-use Rattle.market.specs.Law.{In}
 use Rattle.market.specs.Order.{all_on, is_side, joined, left_of, lots_of, lower, lowered, side_of, sided}
 use Rattle.market.specs.Rule.{Rule}
 use Rattle.market.specs.Walk.{walk}
@@ -50,9 +49,3 @@ all_on_walk eligible e k s =
     (λ n o q all. all)
     (λ n o q w some el ne whole go all. go (and_parts (is_side s (side_of o)) _ all).1)
     (λ n o q some el ne part all. all)
-
--- an order of such a queue is of its side
-pub all_on_in : (s : Side) (q : List Order) (o : Order) → In o q → all_on s q ≡ true → side_of o ≡ s
-all_on_in s [] o i all = absurd i
-all_on_in s (p ∷ q) o (inl e) all = ap side_of e ∙ is_side_true s (side_of p) (and_parts (is_side s (side_of p)) _ all).0
-all_on_in s (p ∷ q) o (inr i) all = all_on_in s q o i (and_parts (is_side s (side_of p)) _ all).1

@@ -132,9 +132,7 @@ impl<R: QueueRule> Book<R> {
         if self.out_of_step(centre, entry.side.other(), plan.trades) {
             return Err(Refusal::OutOfStep);
         }
-        centre
-            .question(entry.account, entry.side, lots)
-            .map_err(Refusal::CentreDenies)?;
+        centre.question(entry.account, entry.side, lots)?;
         Ok(plan)
     }
 }

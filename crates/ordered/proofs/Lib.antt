@@ -1,4 +1,3 @@
-pub mod Changes
 pub mod Keys
 pub mod Lookups
 pub mod Moves

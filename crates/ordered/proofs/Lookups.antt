@@ -1,7 +1,7 @@
 -- What a row holds under a key, from where the key was found and after an edit. Assumes nothing.
 use Rattle.std.proofs.Common.{◌≡◌, ℕ, zero, suc, Bool, true, false, cond, List, [], ◌∷◌, length, get_or, set, ℤ, Some, None, sym, refl, ap, ◌∙◌, inl, inr, suc-le-suc, arith}
-use Rattle.std.specs.List.{list_all, insert}
-use Rattle.std.proofs.lemmas.Bool.{and_parts, cases_Bool, cond-true, cond-false}
+use Rattle.std.specs.List.{insert}
+use Rattle.std.proofs.lemmas.Bool.{cases_Bool, cond-true, cond-false}
 use Rattle.ordered.specs.Key.{eq_z}
 use Rattle.ordered.specs.Row.{at_key, Found, Lacks}
 use Rattle.ordered.proofs.Keys.{eq_z_true, eq_eq_z, ne_eq_z}
@@ -66,16 +66,3 @@ module _ {X : Type 0} (key : X → ℤ) where
   at_key_inserted (y ∷ ys) (suc i) x lacks k =
       let other = lacks zero x (omega arith) in
       ap (cond (eq_z (key y) k) (Some y)) (at_key_inserted ys i x (lacks_rest y ys (key x) (length ys) lacks) k) ∙ swapped_tests (eq_z (key y) k) (eq_z (key x) k) _ _ _ (λ t u. other (eq_z_true _ _ t ∙ sym (eq_z_true _ _ u)))
-
-  -- what a key holds is an item with that key
-  pub at_key_has : (xs : List X) (k : ℤ) (x : X) → at_key key xs k ≡ Some x → key x ≡ k
-  at_key_has [] k x e = absurd (let z : ◌≡◌ {A = ℕ} 0 1 = cc in omega arith)
-  at_key_has (y ∷ ys) k x e =
-      elim (cases_Bool (eq_z (key y) k)) [ inl t ↦ (let same : x ≡ y = cc (first_held y ys k t) in ap key same ∙ eq_z_true _ _ t) | inr f ↦ at_key_has ys k x (sym (first_passed y ys k f) ∙ e) ]
-
-  -- what a key holds passes what all items pass
-  pub at_key_pass : (p : X → Bool) (xs : List X) (k : ℤ) (x : X) → list_all p xs ≡ true → at_key key xs k ≡ Some x → p x ≡ true
-  at_key_pass p [] k x all e = absurd (let z : ◌≡◌ {A = ℕ} 0 1 = cc in omega arith)
-  at_key_pass p (y ∷ ys) k x all e =
-      let both = and_parts (p y) _ all in
-      elim (cases_Bool (eq_z (key y) k)) [ inl t ↦ (let same : x ≡ y = cc (first_held y ys k t) in ap p same ∙ both.0) | inr f ↦ at_key_pass p ys k x both.1 (sym (first_passed y ys k f) ∙ e) ]

@@ -2,7 +2,6 @@
 #![tactic(auto)]
 
 ghost use Rattle.std.specs.Prelude.{◌≡◌, ◌-◌, ◌<◌, ◌≤◌, Bool, true, false, not, List, [], ◌∷◌, ◌++◌, length, take, ℤ, ◌≢◌, nat_lt};
-ghost use Rattle.ordered.specs.Key.{eq_z};
 ghost use Rattle.ordered.specs.Row.{Found, Lacks, at_key, in_order, place, to_end};
 ghost use Rattle.std.specs.List.{insert};
 
@@ -32,13 +31,6 @@ pub trait Standing<T> {
 
     // Of two items with different keys exactly one stands before the other.
     ghost decided: { (s : Self) (x y : T) → (key x ≢ key y) → stands s x y ≡ not (stands s y x) };
-}
-
-// Whether two keys are the same.
-pub fn same(a: i64, b: i64) -> bool
-    ensures { result ≡ eq_z a b }
-{
-    a == b
 }
 
 // The place where an item goes: behind the leading items of the row that stand before it.
