@@ -36,13 +36,9 @@ pub fn trade<C: Centre>(centre: &mut C, order: &mut Resting, lots: u64) -> Resul
     if !can_move(centre, order, lots) {
         return Err(Denial::new(Cause::NotHeld, 0));
     }
-    let Some(grant) = order.call_up(lots) else {
-        unreachable()
-    };
-    match centre.settle(grant, lots) {
-        Ok(_none) => Ok(()),
-        Err(_) => unreachable(),
-    }
+    let grant = order.call_up(lots).unwrap();
+    let _none = centre.settle(grant, lots).unwrap();
+    Ok(())
 }
 
 // Gives back what is left of an order, and answers how many lots that was.
@@ -54,11 +50,7 @@ pub fn withdraw<C: Centre>(centre: &mut C, order: &mut Resting) -> Result<u64, D
     if !can_move(centre, order, lots) {
         return Err(Denial::new(Cause::NotHeld, 0));
     }
-    let Some(grant) = order.call_up(lots) else {
-        unreachable()
-    };
-    match centre.give_back(grant) {
-        Ok(()) => Ok(lots),
-        Err(_) => unreachable(),
-    }
+    let grant = order.call_up(lots).unwrap();
+    centre.give_back(grant).unwrap();
+    Ok(lots)
 }

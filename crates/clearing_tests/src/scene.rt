@@ -127,9 +127,7 @@ pub fn reserve<C: Centre>(
 // Settles lots of a grant for all lots of the order; the grant that is handed back becomes the order.
 pub fn settle<C: Centre>(centre: &mut C, order: &mut Resting, lots: u64) -> Result<(), Denial> {
     let all = order.lots();
-    let Some(grant) = order.call_up(all) else {
-        unreachable()
-    };
+    let grant = order.call_up(all).unwrap();
     match centre.settle(grant, lots) {
         Ok(rest) => {
             *order = rest.rest();
@@ -145,9 +143,7 @@ pub fn settle<C: Centre>(centre: &mut C, order: &mut Resting, lots: u64) -> Resu
 // Gives back a grant for all lots of the order.
 pub fn give_back<C: Centre>(centre: &mut C, mut order: Resting) -> Result<(), Denial> {
     let all = order.lots();
-    let Some(grant) = order.call_up(all) else {
-        unreachable()
-    };
+    let grant = order.call_up(all).unwrap();
     centre.give_back(grant)
 }
 

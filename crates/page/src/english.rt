@@ -41,8 +41,5 @@ Market opened
 pub fn english() -> PhraseTable
     ensures { phrases result.rows ≡ english_phrases }
 {
-    match PhraseTable::from_text(TEXT) {
-        Ok(table) => table,
-        Err(_) => unreachable(),
-    }
+    PhraseTable::from_text(TEXT).unwrap()
 }
