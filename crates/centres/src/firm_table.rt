@@ -5,7 +5,8 @@ ghost use Rattle.clearing.specs.declared.cause.Cause.TheVariants.{BadSetting};
 ghost use Rattle.ordered.specs.Row.{at_key, in_order};
 
 use clearing::account::is_account;
-use clearing::by_account::{ByAccount, OfAccount};
+pub use clearing::by_account::ByAccount;
+use clearing::by_account::OfAccount;
 use clearing::cause::Cause;
 use ordered::lookup;
 use ordered::row::Row;

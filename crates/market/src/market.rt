@@ -3,7 +3,7 @@ ghost use Rattle.market.specs.BookState.{state_of};
 ghost use Rattle.market.specs.Calls.{answer, done};
 ghost use Rattle.market.specs.Law.{CallKeepsTheLaw};
 ghost use Rattle.market.specs.State.{new_market, queue_of};
-ghost use Rattle.std.specs.Prelude.{◌≡◌, IfOk};
+ghost use Rattle.std.specs.Prelude.{◌≡◌, ◌≤◌, length, IfOk};
 
 use crate::book::Book;
 use crate::order::Order;
@@ -143,14 +143,16 @@ impl<R: QueueRule, C: Centre> Market<R, C> {
 
     // The orders of a side, from first to last.
     pub fn orders(&self, side: Side) -> &[Order]
-        ensures { result.now ≡ queue_of side (state_of self.now.book) }
+        ensures orders { result.now ≡ queue_of side (state_of self.now.book) }
+        ensures few { length result.now ≤ 64 }
     {
         self.book.queue(side).as_slice()
     }
 
     // The trades, in the order made.
     pub fn trades(&self) -> &[Trade]
-        ensures { result.now ≡ (state_of self.now.book).register }
+        ensures trades { result.now ≡ (state_of self.now.book).register }
+        ensures few { length result.now ≤ 512 }
     {
         self.book.register.as_slice()
     }

@@ -100,21 +100,17 @@ fn due(letter: u8, column: usize, byte: u8) -> bool {
 
 // Each byte in each of the columns 2 to 4: what is due there is read, and all else is the letters' refusal.
 fn each_letter(line: &[u8; 37]) -> bool {
-    for column in 1..4 {
-        for byte in 0..=255u8 {
+    (1..4).all(|column| {
+        (0..=255u8).all(|byte| {
             let mut changed = *line;
             changed[column] = byte;
-            let right = if due(line[0], column, byte) {
+            if due(line[0], column, byte) {
                 read(&changed).is_ok()
             } else {
                 refused(&changed, Refusal::CommandLetter)
-            };
-            if !right {
-                return false;
             }
-        }
-    }
-    true
+        })
+    })
 }
 
 #[test]
@@ -125,15 +121,12 @@ fn letters(rt: HostRuntime) {
     assert!(rt; each_letter(REDUCE));
     assert!(rt; each_letter(SUSPEND));
     assert!(rt; each_letter(RESUME));
-    let mut known = 0u16;
-    for byte in 0..=255u8 {
+    let known = (0..=255u8).filter(|&byte| {
         let mut line = *SUSPEND;
         line[0] = byte;
-        if !refused(&line, Refusal::CommandLetter) {
-            known = known.wrapping_add(1);
-        }
-    }
-    assert!(rt; known == 5);
+        !refused(&line, Refusal::CommandLetter)
+    });
+    assert!(rt; known.count() == 5);
 }
 
 // A reduction whose second number is the field.

@@ -46,16 +46,9 @@ fn replies(f: Figures, denial: Denial) -> [Reply; 28] {
 // Prints into 200 bytes; the line reads back as what was printed, and the bytes past it are left alone.
 fn goes_round(table: &PhraseTable, line: PageLine) -> bool {
     let mut out = [0xaa; 200];
-    if table.print(&line, &mut out).is_err() {
-        return false;
-    }
-    if !out[86..].iter().all(|&b| b == 0xaa) {
-        return false;
-    }
-    match table.read_back(&out) {
-        Ok(found) => found.number == line.number && found.reply == line.reply,
-        Err(_) => false,
-    }
+    table.print(&line, &mut out).is_ok()
+        && out[86..].iter().all(|&b| b == 0xaa)
+        && table.read_back(&out) == Ok(line)
 }
 
 fn all_go_round(number: u64, figures: Figures, denial: Denial) -> bool {
@@ -166,26 +159,12 @@ fn no_phrase_no_line(rt: HostRuntime) {
         Refusal::NotPrintable,
     ];
     for refusal in unowned {
-        assert!(rt;
-            is_refused(
-                PageLine {
-                    number: 1,
-                    reply: Err(refusal),
-                },
-                86,
-                Refusal::NotPrintable,
-            )
-        );
-        assert!(rt;
-            is_refused(
-                PageLine {
-                    number: 1,
-                    reply: Err(refusal),
-                },
-                85,
-                Refusal::LineTooShort,
-            )
-        );
+        let line = PageLine {
+            number: 1,
+            reply: Err(refusal),
+        };
+        assert!(rt; is_refused(line, 86, Refusal::NotPrintable));
+        assert!(rt; is_refused(line, 85, Refusal::LineTooShort));
     }
     assert!(rt;
         is_refused(

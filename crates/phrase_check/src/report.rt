@@ -34,7 +34,7 @@ fn explain<W: Write>(out: &mut W, fault: TextFault) -> io::Result<()> {
     match fault {
         TextFault::Unsound { line, .. } => {
             write!(out, "{fault}\n")?;
-            if line >= 1 && line <= OWNERS {
+            if (1..=OWNERS).contains(&line) {
                 entry(out, line - 1, &english())?;
             }
             Ok(())

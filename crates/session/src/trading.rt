@@ -32,9 +32,9 @@ pub fn trade<R: QueueRule, C: Centre, I: Read, O: Write + Drop>(
         if input.read_until(b'\n', &mut read)? == 0 {
             return Ok(());
         }
-        if answer(market, table, number, line(read.as_slice()), &mut printed).is_err() {
-            return Err(anyhow!("a reply has no room on the page: the session stops"));
-        }
+        answer(market, table, number, line(read.as_slice()), &mut printed).map_err(|_| anyhow!(
+            "a reply has no room on the page: the session stops"
+        ))?;
         output.write_all(&printed)?;
     }
     output.flush()?;
