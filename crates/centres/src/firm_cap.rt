@@ -90,8 +90,8 @@ impl<C: Centre + Drop> FirmCap<C> {
     {
         self.firms.firm(account).is_some_and(|firm| {
             // A sum that saturates is past any cap too.
-            let all = self.total(firm).saturating_add(lots as u128);
-            all > self.firms.cap(firm) as u128
+            let all = self.total(firm).saturating_add(u128::from(lots));
+            all > u128::from(self.firms.cap(firm))
         })
     }
 
