@@ -1,5 +1,5 @@
 -- The firms of a cap: their accounts, their caps, and when one is passed. Assumes nothing.
-use Rattle.std.specs.Prelude.{◌≡◌, ℕ, zero, ◌+◌, ◌-◌, Bool, false, cond, ◌&&◌, List, ℤ, Some, None, Option, ◌==◌, int_lt, nat_le, nat_lt, slice_index}
+use Rattle.std.specs.Prelude.{◌≡◌, ℕ, zero, ◌+◌, ◌-◌, Bool, false, cond, ◌&&◌, List, ℤ, Some, None, Option, ◌==◌, int_lt, min, nat_le, nat_lt, slice_index}
 use Rattle.std.specs.List.{insert, sum_by}
 use Rattle.ordered.specs.Row.{place}
 use Rattle.clearing.specs.Account.{account_fits}
@@ -68,6 +68,10 @@ over_cap L ms caps a n = over_at L ms caps n (firm_of ms a)
 abbrev pub first_no : Option Denial → Option Denial → Option Denial
 first_no None x = x
 first_no (Some d) x = Some d
+
+-- the depth of a layer over one at the depth d
+abbrev pub layer_over : ℕ → ℕ
+layer_over d = min (d + 1) 99
 
 -- the no of a cap at depth d, where n lots more would pass it
 abbrev pub cap_no : Lines → List Member → List ℕ → ℕ → ℤ → ℕ → Option Denial

@@ -1,7 +1,7 @@
 // The firm cap: a layer over any centre, another cap included, that limits what all accounts of a firm come to.
-ghost use Rattle.std.specs.Prelude.{◌≡◌, ◌+◌, ◌^◌, ◌<◌, min};
+ghost use Rattle.std.specs.Prelude.{◌≡◌, ◌^◌, ◌<◌};
 ghost use Rattle.centres.specs.FirmCap.{CapSet, PlacedIn};
-ghost use Rattle.centres.specs.Firms.{cap_no, cap_own, firm_total, over_cap, share_of};
+ghost use Rattle.centres.specs.Firms.{cap_no, cap_own, firm_total, layer_over, over_cap, share_of};
 ghost use Rattle.clearing.specs.Centre.{answered};
 ghost use Rattle.std.proofs.Common.{rules};
 
@@ -37,14 +37,14 @@ impl<C: Centre + Drop> FirmCap<C> {
 
     // The depth of this layer.
     fn layer(&self) -> u8
-        ensures { result ≡ min (C.Centre.depth self.now.below + 1) 99 }
+        ensures { result ≡ layer_over (C.Centre.depth self.now.below) }
     {
         one_up(self.below.depth())
     }
 
     // Places an account in a firm.
     pub fn place(&mut self, account: i64, firm: u64) -> Result<(), Denial>
-        ensures { PlacedIn (min (C.Centre.depth self.old.below + 1) 99) self.old account firm self.new result }
+        ensures { PlacedIn (layer_over (C.Centre.depth self.old.below)) self.old account firm self.new result }
     {
         self.firms
             .place(account, firm)
@@ -53,7 +53,7 @@ impl<C: Centre + Drop> FirmCap<C> {
 
     // Sets the cap of a firm.
     pub fn set_cap(&mut self, firm: u64, cap: u64) -> Result<(), Denial>
-        ensures { CapSet (min (C.Centre.depth self.old.below + 1) 99) self.old firm cap self.new result }
+        ensures { CapSet (layer_over (C.Centre.depth self.old.below)) self.old firm cap self.new result }
     {
         self.firms
             .set_cap(firm, cap)
@@ -90,14 +90,14 @@ impl<C: Centre + Drop> FirmCap<C> {
     {
         self.firms.firm(account).is_some_and(|firm| {
             // A sum that saturates is past any cap too.
-            let all = self.total(firm).saturating_add(lots as u128);
-            all > self.firms.cap(firm) as u128
+            let all = self.total(firm).saturating_add(u128::from(lots));
+            all > u128::from(self.firms.cap(firm))
         })
     }
 
     // A no by cause 4, where the account's firm would pass its cap with the new lots.
     fn within_cap(&self, account: i64, lots: u64) -> Result<(), Denial>
-        ensures { result ≡ answered (cap_no (C.Centre.lines self.now.below) self.now.firms.members self.now.firms.caps (min (C.Centre.depth self.now.below + 1) 99) account lots) }
+        ensures { result ≡ answered (cap_no (C.Centre.lines self.now.below) self.now.firms.members self.now.firms.caps (layer_over (C.Centre.depth self.now.below)) account lots) }
     {
         if self.is_over(account, lots) {
             return Err(Denial::new(Cause::OverFirmCap, self.layer()));
@@ -109,9 +109,9 @@ impl<C: Centre + Drop> FirmCap<C> {
 impl<C: Centre + Drop> Centre for FirmCap<C> {
     ghost lines = { λ s. C.Centre.lines s.below };
 
-    ghost own = { λ s. cap_own (C.Centre.own s.below) s.firms.members s.firms.caps (min (C.Centre.depth s.below + 1) 99) };
+    ghost own = { λ s. cap_own (C.Centre.own s.below) s.firms.members s.firms.caps (layer_over (C.Centre.depth s.below)) };
 
-    ghost depth = { λ s. min (C.Centre.depth s.below + 1) 99 };
+    ghost depth = { λ s. layer_over (C.Centre.depth s.below) };
 
     ghost sound = { Prim.search rules };
 

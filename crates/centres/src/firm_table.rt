@@ -103,10 +103,9 @@ impl FirmTable {
         if !self.can_place(account, firm) {
             return Err(Cause::BadSetting);
         }
-        self.members
-            .add(&ByAccount, Member { account, firm })
-            .map(|_| ())
-            .map_err(|_| Cause::BadSetting)
+        let member = Member { account, firm };
+        self.members.add(&ByAccount, member).unwrap();
+        Ok(())
     }
 
     // Sets the cap of a firm to 0 to 999,999,999; by cause 6 nothing changes.

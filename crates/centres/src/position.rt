@@ -14,8 +14,8 @@ impl AccountRule for Position {
     ghost top = { limit_max };
 
     fn admits(&self, allowance: u64, line: &Line, side: Side, lots: u64) -> bool {
-        let taken = line.on(side).sum() + lots as u128;
-        let room = allowance as u128 + line.on(side.other()).settled as u128;
+        let taken = line.on(side).sum() + u128::from(lots);
+        let room = u128::from(allowance) + u128::from(line.on(side.other()).settled);
         taken <= room
     }
 

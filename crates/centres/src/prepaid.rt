@@ -39,9 +39,9 @@ impl AccountRule for Prepaid {
     ghost top = { deposit_max };
 
     fn admits(&self, allowance: u64, line: &Line, _side: Side, lots: u64) -> bool {
-        let all = line.total() + lots as u128;
-        let margin = self.margin as u128;
-        margin * all <= allowance as u128
+        let all = line.total() + u128::from(lots);
+        let margin = u128::from(self.margin);
+        margin * all <= u128::from(allowance)
     }
 
     fn top() -> u64 {

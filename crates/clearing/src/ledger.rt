@@ -121,14 +121,11 @@ impl Ledger {
     pub(crate) fn add(&mut self, account: i64, allowance: u64) -> Result<(), Denial>
         ensures { MatchResult result (λ _. (can_add self.old.rows account ≡ true) × Added self.old.rows account allowance self.new.rows) (λ d. (can_add self.old.rows account ≡ false) × (d ≡ denied BadSetting 0) × (self.new ≡ self.old)) }
     {
-        let refused = Denial::new(Cause::BadSetting, 0);
         if !self.can_add(account) {
-            return Err(refused);
+            return Err(Denial::new(Cause::BadSetting, 0));
         }
         let row = AccountLine::new(account, allowance);
-        self.rows
-            .add(&ByAccount, row)
-            .map(|_| ())
-            .map_err(|_| refused)
+        self.rows.add(&ByAccount, row).unwrap();
+        Ok(())
     }
 }

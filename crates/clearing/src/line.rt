@@ -17,7 +17,7 @@ impl Counts {
         ensures value { result ≡ self.now.held + self.now.settled }
         ensures bound { result < 2 ^ 65 }
     {
-        self.held as u128 + self.settled as u128
+        u128::from(self.held) + u128::from(self.settled)
     }
 }
 
@@ -79,7 +79,7 @@ impl Line {
     pub(crate) fn has_room(&self, side: Side, lots: u64) -> bool
         ensures { result ≡ in_range side lots self.now }
     {
-        (1..=1_000_000).contains(&lots) && self.on(side).sum() + lots as u128 <= 999_999_999
+        (1..=1_000_000).contains(&lots) && self.on(side).sum() + u128::from(lots) <= 999_999_999
     }
 
     // Lots more are held.

@@ -68,32 +68,32 @@ impl<R: QueueRule> Book<R> {
     }
 
     // The plan of an entry's walk.
-    fn plan(&self, entry: Entry, lots: u64) -> Plan
-        requires number { self.now.last < 999999 }
-        requires lots { lots ≡ entry_lots entry }
+    fn plan(&self, entry: Entry) -> Plan
+        requires { self.now.last < 999999 }
         ensures plans { Plans result (walk_of (R.QueueRule.rule self.now.rule.rule) (state_of self.now) entry) }
         ensures few { result.trades ≤ 64 }
     {
         let taker = self.taker(entry);
         let theirs = self.queue(entry.side.other());
+        let lots = entry_lots(&entry);
         plan_walk(&self.rule.rule, &taker, lots, theirs.as_slice())
     }
 
     // Refuses an entry that the ending of its walk or the number of its trades forbids.
-    fn check_walk(&self, entry: &Entry, ending: Ending, trades: usize) -> Result<(), Refusal>
-        requires { trades ≤ 64 }
-        ensures { result ≡ allowed (first_of (walk_checks (state_of self.now) entry.now ending trades)) }
+    fn check_walk(&self, entry: &Entry, plan: Plan) -> Result<(), Refusal>
+        requires { plan.trades ≤ 64 }
+        ensures { result ≡ allowed (first_of (walk_checks (state_of self.now) entry.now plan.ending plan.trades)) }
     {
-        if ending == Ending::Own && trades == 0 {
+        if plan.ending == Ending::Own && plan.trades == 0 {
             return Err(Refusal::OwnOrderFirst);
         }
-        if entry.rest == Rest::InFull && ending != Ending::Filled {
+        if entry.rest == Rest::InFull && plan.ending != Ending::Filled {
             return Err(Refusal::NotInFull);
         }
-        if self.register.len() + trades > 512 {
+        if self.register.len() + plan.trades > 512 {
             return Err(Refusal::RegisterFull);
         }
-        if rest_joins(entry, ending) && self.queue(entry.side).is_full() {
+        if rest_joins(entry, plan.ending) && self.queue(entry.side).is_full() {
             return Err(Refusal::QueueFull);
         }
         Ok(())
@@ -126,13 +126,12 @@ impl<R: QueueRule> Book<R> {
         ensures { Judged (R.QueueRule.rule self.now.rule.rule) (C.Centre.own centre.now) (state_of self.now) (C.Centre.lines centre.now) entry.now result }
     {
         self.check_terms(entry)?;
-        let lots = entry_lots(entry);
-        let plan = self.plan(*entry, lots);
-        self.check_walk(entry, plan.ending, plan.trades)?;
+        let plan = self.plan(*entry);
+        self.check_walk(entry, plan)?;
         if self.out_of_step(centre, entry.side.other(), plan.trades) {
             return Err(Refusal::OutOfStep);
         }
-        centre.question(entry.account, entry.side, lots)?;
+        centre.question(entry.account, entry.side, entry_lots(entry))?;
         Ok(plan)
     }
 }

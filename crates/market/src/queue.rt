@@ -52,8 +52,7 @@ impl Queue {
         requires { length self.old.orders < 64 }
         ensures { self.new.orders ≡ joined (R.QueueRule.rule rule.now.rule) order self.old.orders }
     {
-        // There is room, so no order comes back.
-        let _ = self.orders.add(rule, order);
+        self.orders.add(rule, order).unwrap();
     }
 
     // The lots that an account has resting.

@@ -41,7 +41,7 @@ returns-in_err-question g c =
     let C = g.C.Centre.own c.args.centre.now in
     let L = g.C.Centre.lines c.args.centre.now in
     let fa : SFits w64 e.account = search rules in
-    let asked = c.question.ensures ∙ ap₂ (λ a n. answered (verdict C L a e.side n)) (to_z-of_z w64 e.account fa) c.entry_lots-lots.ensures in
+    let asked = c.question.ensures ∙ ap₂ (λ a n. answered (verdict C L a e.side n)) (to_z-of_z w64 e.account fa) c.entry_lots.ensures in
     let p = err_from_is_err_and c.from_residual-in_err-question.result c.from_residual-in_err-question.ensures.1 in
     rw (p.1, p.2) (by_centre C (state_of b) L e (walk_of R (state_of b) e) (allowed_yes _ _ (sym c.in_ok-check_terms.ensures)) c.plan-plan.result c.plan-plan.ensures.plans (allowed_yes _ _ (sym c.in_ok-check_walk.ensures))
     (plan_lines R (state_of b) L e c.plan-plan.result c.plan-plan.ensures.plans c.other.result c.other.ensures _ c.if-out_of_step.ensures)
@@ -55,7 +55,7 @@ returns g c =
     let C = g.C.Centre.own c.args.centre.now in
     let L = g.C.Centre.lines c.args.centre.now in
     let fa : SFits w64 e.account = search rules in
-    let asked = c.question.ensures ∙ ap₂ (λ a n. answered (verdict C L a e.side n)) (to_z-of_z w64 e.account fa) c.entry_lots-lots.ensures in (
+    let asked = c.question.ensures ∙ ap₂ (λ a n. answered (verdict C L a e.side n)) (to_z-of_z w64 e.account fa) c.entry_lots.ensures in (
       by_centre C (state_of b) L e (walk_of R (state_of b) e) (allowed_yes _ _ (sym c.in_ok-check_terms.ensures)) c.plan-plan.result c.plan-plan.ensures.plans (allowed_yes _ _ (sym c.in_ok-check_walk.ensures))
           (plan_lines R (state_of b) L e c.plan-plan.result c.plan-plan.ensures.plans c.other.result c.other.ensures _ c.if-out_of_step.ensures)
           ∙ sym (centre_yes _ _ (sym c.in_ok-question.was ∙ asked)),

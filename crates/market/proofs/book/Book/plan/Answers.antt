@@ -18,9 +18,9 @@ returns g c =
     let e = c.args.entry in
     let q = queue_of (other e.side) S in
     let theirs = c.as_slice.ensures.orders ∙ c.queue-theirs.ensures ∙ ap (λ s. queue_of s S) c.other.ensures in
-    let same : walk_by R c.taker-taker.result c.args.lots c.as_slice.result.now ≡ walk_of R S e =
-    ap (λ t. walk_by R t c.args.lots c.as_slice.result.now) c.taker-taker.ensures
-    ∙ ap₂ (walk_by R (taker_of S e)) c.requires.lots theirs
+    let same : walk_by R c.taker-taker.result c.entry_lots-lots.result c.as_slice.result.now ≡ walk_of R S e =
+    ap (λ t. walk_by R t c.entry_lots-lots.result c.as_slice.result.now) c.taker-taker.ensures
+    ∙ ap₂ (walk_by R (taker_of S e)) c.entry_lots-lots.ensures theirs
     ∙ walk_same R (taker_of S e) q refl (entry_lots e) q in
     let w = c.plan_walk.ensures in
     let plans : Plans c.plan_walk.result (walk_of R S e) = record {
