@@ -4,10 +4,13 @@ use crate::steps::Ask::{Buy, BuyAtMarket, Open, Reduce, Sell, Withdraw};
 use crate::steps::Step;
 use crate::steps::Step::{Buys, Does, Line, RestsFor, Sells};
 use crate::steps::Told::{Denied, No, Yes};
-use crate::view::{OTHER_RULE, SAME_RULE};
+use crate::view::{OTHER_RULE, SAME_RULE, View};
 use dealing::call::Rest::{InFull, Queue, TakeOff};
 use market::rate::ByRate;
+use market::rule::QueueRule;
 use market::yields::ByYield;
+use std::alloc::Global;
+use std::process::Abort;
 use std::test::Fail;
 
 const FULL_QUEUE: [Step; 22] = [
@@ -122,45 +125,24 @@ const CAPS: [Step; 19] = [
     Line(104, [0, 0, 0, 30]),
 ];
 
-#[test]
-fn two_firm_caps(rt: HostRuntime) -> Result<(), Fail> {
-    let heap = rt.alloc();
+fn under_two_caps<R: QueueRule + Copy>(
+    rt: &impl Abort,
+    heap: Global,
+    rule: R,
+    views: [View; 2],
+) -> Result<(), Fail> {
     let caps = (60, 40);
-    for view in SAME_RULE {
-        run_over(
-            &rt,
-            heap,
-            ByRate,
-            two_caps(heap, position(heap, 50)?, caps)?,
-            view,
-            &CAPS,
-        )?;
-        run_over(
-            &rt,
-            heap,
-            ByRate,
-            two_caps(heap, prepaid(heap, 50)?, caps)?,
-            view,
-            &CAPS,
-        )?;
-    }
-    for view in OTHER_RULE {
-        run_over(
-            &rt,
-            heap,
-            ByYield,
-            two_caps(heap, position(heap, 50)?, caps)?,
-            view,
-            &CAPS,
-        )?;
-        run_over(
-            &rt,
-            heap,
-            ByYield,
-            two_caps(heap, prepaid(heap, 50)?, caps)?,
-            view,
-            &CAPS,
-        )?;
+    for view in views {
+        let by_position = two_caps(heap, position(heap, 50)?, caps)?;
+        run_over(rt, heap, rule, by_position, view, &CAPS)?;
+        let by_deposit = two_caps(heap, prepaid(heap, 50)?, caps)?;
+        run_over(rt, heap, rule, by_deposit, view, &CAPS)?;
     }
     Ok(())
+}
+
+#[test]
+fn two_firm_caps(rt: HostRuntime) -> Result<(), Fail> {
+    under_two_caps(&rt, rt.alloc(), ByRate, SAME_RULE)?;
+    under_two_caps(&rt, rt.alloc(), ByYield, OTHER_RULE)
 }

@@ -6,6 +6,8 @@ use centres::firm_table::FirmTable;
 use centres::position::Position;
 use centres::prepaid::Prepaid;
 use centres::{PositionCentre, PrepaidCentre};
+use clearing::account_centre::AccountCentre;
+use clearing::account_rule::AccountRule;
 use clearing::centre::Centre;
 use clearing::line::Line;
 use clearing::side::Side;
@@ -16,6 +18,7 @@ use market::rule::QueueRule;
 use market::trade::Trade;
 use market::yields::ByYield;
 use std::alloc::Global;
+use std::array;
 use std::process::Abort;
 use std::test::Fail;
 
@@ -39,55 +42,54 @@ pub struct Seen {
 }
 
 fn queue<R: QueueRule, C: Centre>(market: &Market<R, C>, side: Side) -> Queue {
-    let mut rows = [None; 64];
-    for (row, order) in rows.iter_mut().zip(market.orders(side)) {
-        *row = Some((
-            order.number(),
-            order.account(),
-            order.side(),
-            order.price(),
-            order.lots(),
-        ));
-    }
-    rows
+    let orders = market.orders(side);
+    array::from_fn(|place| {
+        orders.get(place).map(|order| {
+            (
+                order.number(),
+                order.account(),
+                order.side(),
+                order.price(),
+                order.lots(),
+            )
+        })
+    })
 }
 
 pub fn look<R: QueueRule, C: Centre>(market: &Market<R, C>) -> Seen {
-    let mut trades = [None; 512];
-    for (slot, trade) in trades.iter_mut().zip(market.trades()) {
-        *slot = Some(*trade);
-    }
-    let mut lines = [None; 6];
-    for (slot, account) in lines.iter_mut().zip(WATCHED) {
-        *slot = market.line(account);
-    }
+    let trades = market.trades();
     Seen {
         period: market.period(),
         terms: (market.low(), market.high(), market.deviation()),
         last: market.last_number(),
         buys: queue(market, Side::Buy),
         sells: queue(market, Side::Sell),
-        trades,
-        lines,
+        trades: array::from_fn(|place| trades.get(place).copied()),
+        lines: WATCHED.map(|account| market.line(account)),
     }
+}
+
+// A centre with the four accounts, each with the same deposit or limit.
+fn with_accounts<R: AccountRule + Drop>(
+    heap: Global,
+    rule: R,
+    allowance: u64,
+) -> Result<AccountCentre<R>, Fail> {
+    let mut centre = AccountCentre::new(heap, rule)?;
+    for account in ACCOUNTS {
+        centre.add(account, allowance)?;
+    }
+    Ok(centre)
 }
 
 // Each account may come to so many lots on a side.
 pub fn position(heap: Global, lots: u32) -> Result<PositionCentre, Fail> {
-    let mut centre = PositionCentre::new(heap, Position)?;
-    for account in ACCOUNTS {
-        centre.add(account, lots as u64)?;
-    }
-    Ok(centre)
+    with_accounts(heap, Position, u64::from(lots))
 }
 
 // Each account has the deposit for so many lots on both sides together, at a margin of 200.
 pub fn prepaid(heap: Global, lots: u32) -> Result<PrepaidCentre, Fail> {
-    let mut centre = PrepaidCentre::new(heap, Prepaid::new(200)?)?;
-    for account in ACCOUNTS {
-        centre.add(account, 200 * lots as u64)?;
-    }
-    Ok(centre)
+    with_accounts(heap, Prepaid::new(200)?, 200 * u64::from(lots))
 }
 
 fn capped<C: Centre + Drop>(

@@ -70,6 +70,15 @@ impl View {
         (low, high, deviation)
     }
 
+    // What belongs to the buy and what to the sell, as this view reads the table's.
+    fn exchange<T: Copy>(self, buy: T, sell: T) -> (T, T) {
+        if self.exchanged {
+            (sell, buy)
+        } else {
+            (buy, sell)
+        }
+    }
+
     pub fn trade(self, deal: Deal) -> Trade {
         let (buy_number, sell_number, buyer, seller, price, lots) = deal;
         let buy = Party {
@@ -80,19 +89,11 @@ impl View {
             number: sell_number,
             account: seller,
         };
-        let price = self.price(price);
-        if self.exchanged {
-            return Trade {
-                buy: sell,
-                sell: buy,
-                price,
-                lots,
-            };
-        }
+        let (buy, sell) = self.exchange(buy, sell);
         Trade {
             buy,
             sell,
-            price,
+            price: self.price(price),
             lots,
         }
     }
@@ -108,12 +109,7 @@ impl View {
             held: sell_held,
             settled: sell_settled,
         };
-        if self.exchanged {
-            return Line {
-                buy: sell,
-                sell: buy,
-            };
-        }
+        let (buy, sell) = self.exchange(buy, sell);
         Line { buy, sell }
     }
 
