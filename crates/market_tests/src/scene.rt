@@ -126,7 +126,8 @@ pub fn run_over<R: QueueRule + Drop, C: Centre + Drop>(
     view: View,
     steps: &[Step],
 ) -> Result<(), Fail> {
-    run(rt, &mut Market::new(heap, rule, centre)?, view, steps)
+    run(rt, &mut Market::new(heap, rule, centre)?, view, steps);
+    Ok(())
 }
 
 // Over both centres, and under two caps that no account reaches.

@@ -9,7 +9,6 @@ use market::market::Market;
 use market::period::Period;
 use market::rule::QueueRule;
 use std::process::Abort;
-use std::test::Fail;
 
 // An entry is written as account, type, price and lots.
 #[derive(Clone, Copy, Debug)]
@@ -73,16 +72,15 @@ fn does<R: QueueRule, C: Centre>(
     view: View,
     ask: Ask,
     answer: Told,
-) -> Result<(), Fail> {
+) {
     let call = view.call(ask);
     if let Told::Yes(..) = answer {
         assert_eq!(rt; in_numbers(market.call(call)), answer, "{ask:?}, {view:?}");
-        return Ok(());
+        return;
     }
     let before = look(market);
     assert_eq!(rt; in_numbers(market.call(call)), answer, "{ask:?}, {view:?}");
     assert_eq!(rt; look(market), before, "{ask:?}, {view:?}");
-    Ok(())
 }
 
 fn rests_for<R: QueueRule, C: Centre>(
@@ -91,12 +89,11 @@ fn rests_for<R: QueueRule, C: Centre>(
     view: View,
     numbers: (u32, u32),
     ask: Ask,
-) -> Result<(), Fail> {
+) {
     let (first, last) = numbers;
     for number in first..=last {
-        does(rt, market, view, ask, Told::Yes(51, number, 0, 1, 0))?;
+        does(rt, market, view, ask, Told::Yes(51, number, 0, 1, 0));
     }
-    Ok(())
 }
 
 fn shows_orders<R: QueueRule, C: Centre>(
@@ -105,7 +102,7 @@ fn shows_orders<R: QueueRule, C: Centre>(
     view: View,
     side: Side,
     rows: &[Row],
-) -> Result<(), Fail> {
+) {
     let side = view.side(side);
     let orders = market.orders(side);
     assert_eq!(rt; orders.len(), rows.len(), "{view:?}");
@@ -114,7 +111,6 @@ fn shows_orders<R: QueueRule, C: Centre>(
         let found = (order.number(), order.account(), order.price(), order.lots());
         assert_eq!(rt; found, view.row(*row), "{view:?}");
     }
-    Ok(())
 }
 
 fn shows_trades<R: QueueRule, C: Centre>(
@@ -122,25 +118,23 @@ fn shows_trades<R: QueueRule, C: Centre>(
     market: &Market<R, C>,
     view: View,
     deals: &[Deal],
-) -> Result<(), Fail> {
+) {
     let trades = market.trades();
     assert_eq!(rt; trades.len(), deals.len(), "{view:?}");
     for (trade, deal) in trades.iter().zip(deals) {
         assert_eq!(rt; *trade, view.trade(*deal), "{view:?}");
     }
-    Ok(())
 }
 
 fn shows_terms<R: QueueRule, C: Centre>(
     rt: &impl Abort,
     market: &Market<R, C>,
     terms: (i64, i64, i64),
-) -> Result<(), Fail> {
+) {
     let (low, high, deviation) = terms;
     assert_eq!(rt; market.low(), low);
     assert_eq!(rt; market.high(), high);
     assert_eq!(rt; market.deviation(), deviation.unsigned_abs());
-    Ok(())
 }
 
 fn take<R: QueueRule, C: Centre>(
@@ -148,13 +142,12 @@ fn take<R: QueueRule, C: Centre>(
     market: &mut Market<R, C>,
     view: View,
     step: Step,
-) -> Result<(), Fail> {
+) {
     match step {
         Step::Does(ask, answer) => does(rt, market, view, ask, answer),
         Step::RestsFor(first, last, ask) => rests_for(rt, market, view, (first, last), ask),
         Step::In(period) => {
             assert_eq!(rt; market.period(), period, "{view:?}");
-            Ok(())
         },
         Step::Terms(low, high, deviation) => {
             shows_terms(rt, market, view.terms(low, high, deviation))
@@ -168,7 +161,6 @@ fn take<R: QueueRule, C: Centre>(
                 Some(view.line(counts)),
                 "{account}, {view:?}"
             );
-            Ok(())
         },
     }
 }
@@ -178,9 +170,8 @@ pub fn run<R: QueueRule, C: Centre>(
     market: &mut Market<R, C>,
     view: View,
     steps: &[Step],
-) -> Result<(), Fail> {
+) {
     for step in steps {
-        take(rt, market, view, *step)?;
+        take(rt, market, view, *step);
     }
-    Ok(())
 }
