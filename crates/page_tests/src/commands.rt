@@ -100,17 +100,21 @@ fn due(letter: u8, column: usize, byte: u8) -> bool {
 
 // Each byte in each of the columns 2 to 4: what is due there is read, and all else is the letters' refusal.
 fn each_letter(line: &[u8; 37]) -> bool {
-    (1..4).all(|column| {
-        (0..=255u8).all(|byte| {
+    for column in 1..4 {
+        for byte in 0..=255u8 {
             let mut changed = *line;
             changed[column] = byte;
-            if due(line[0], column, byte) {
+            let right = if due(line[0], column, byte) {
                 read(&changed).is_ok()
             } else {
                 refused(&changed, Refusal::CommandLetter)
+            };
+            if !right {
+                return false;
             }
-        })
-    })
+        }
+    }
+    true
 }
 
 #[test]
