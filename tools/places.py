@@ -57,7 +57,7 @@ FORMS = [
     (6, "a vector with bounds beside it", lambda n, l: lines_with(n, l, r"ghost few: \{ vec_len")),
     (6, "an array with a length beside it, or arrays in parallel", lambda n, l: lines_with(n, l, r"^\s*(?:pub )?(len|count|used): usize,")),
     (7, "dyn, a function pointer or a closure type", lambda n, l: lines_with(n, l, r"\bdyn |\bfn\(|impl Fn|: Fn(Mut|Once)?\(")),
-    (7, "a match on the step to run", lambda n, l: lines_with(n, l, r"match step\b")),
+    (7, "a match on the step to run", lambda n, l: lines_with(n, l, r"match \*?(step|case)\b")),
 ]
 
 
