@@ -1,8 +1,8 @@
-// Where there is no more room: a full queue, a full register, firm caps, and the most lots of a side.
+// Where there is no more room: a full queue, a full register, no number left, and firm caps.
 use crate::scene::{position, prepaid, run_all, run_over, two_caps};
 use crate::steps::Ask::{Buy, BuyAtMarket, Open, Reduce, Sell, Withdraw};
 use crate::steps::Step;
-use crate::steps::Step::{Buys, Does, Line, RestsFor, Sells};
+use crate::steps::Step::{Buys, Does, Line, OffFor, RestsFor, Sells};
 use crate::steps::Told::{Denied, No, Yes};
 use crate::view::{OTHER_RULE, SAME_RULE, View};
 use dealing::call::Rest::{InFull, Queue, TakeOff};
@@ -98,6 +98,51 @@ const FULL_REGISTER: [Step; 41] = [
 #[test]
 fn a_register_takes_512_trades(rt: HostRuntime) -> Result<(), Fail> {
     run_all(&rt, rt.alloc(), 1000, &FULL_REGISTER)
+}
+
+const NUMBERS_USED_UP: [Step; 15] = [
+    Does(Open(1, 100_000, 50), Yes(60, 0, 0, 0, 0)),
+    Does(Sell(101, Queue, 7000, 5), Yes(51, 1, 0, 5, 0)),
+    OffFor(2, 999_998, Buy(102, TakeOff, 6999, 1)),
+    // The last number.
+    Does(Buy(102, Queue, 7000, 1), Yes(50, 999_999, 1, 0, 0)),
+    Does(Buy(102, Queue, 7000, 1), No(5)),
+    Does(BuyAtMarket(102, TakeOff, 0, 1), No(5)),
+    // Before the walk and the centre are looked at, and after the entry's own terms.
+    Does(Buy(101, Queue, 7000, 1), No(5)),
+    Does(Buy(102, InFull, 7000, 5), No(5)),
+    Does(Buy(999, Queue, 7000, 1), No(5)),
+    Does(Buy(102, Queue, 7000, 0), No(2)),
+    Does(BuyAtMarket(102, Queue, 0, 1), No(3)),
+    Does(Buy(102, Queue, 100_001, 1), No(4)),
+    // What needs no number still goes.
+    Does(Reduce(101, 1, 1), Yes(57, 1, 0, 3, 1)),
+    Does(Withdraw(101, 1), Yes(56, 1, 0, 0, 3)),
+    Line(102, [0, 1, 0, 0]),
+];
+
+// Two million calls: `rt test` makes them at once, and `rt try --test` gives up on them.
+#[test]
+fn numbers_end_at_999_999(rt: HostRuntime) -> Result<(), Fail> {
+    let heap = rt.alloc();
+    let [same, _] = SAME_RULE;
+    run_over(
+        &rt,
+        heap,
+        ByRate,
+        position(heap, 100)?,
+        same,
+        &NUMBERS_USED_UP,
+    )?;
+    let [other, _] = OTHER_RULE;
+    run_over(
+        &rt,
+        heap,
+        ByYield,
+        prepaid(heap, 100)?,
+        other,
+        &NUMBERS_USED_UP,
+    )
 }
 
 // The first layer has accounts 101 and 102 in a firm with cap 60, the second 101 and 103 in one with cap 40.

@@ -39,6 +39,8 @@ pub enum Step {
     Does(Ask, Told),
     // The entry, of 1 lot, is made once for each of these numbers, and rests each time.
     RestsFor(u32, u32, Ask),
+    // The same, and it is taken off each time.
+    OffFor(u32, u32, Ask),
     In(Period),
     // The low end, the high end and the deviation.
     Terms(i64, i64, i64),
@@ -65,6 +67,20 @@ fn in_numbers(reply: Reply) -> Told {
     }
 }
 
+fn answers<R: QueueRule, C: Centre>(
+    rt: &impl Abort,
+    market: &mut Market<R, C>,
+    view: View,
+    ask: Ask,
+    answer: Told,
+) {
+    assert_eq!(rt;
+        in_numbers(market.call(view.call(ask))),
+        answer,
+        "{ask:?}, {view:?}"
+    );
+}
+
 // A refused call moves nothing.
 fn does<R: QueueRule, C: Centre>(
     rt: &impl Abort,
@@ -73,26 +89,34 @@ fn does<R: QueueRule, C: Centre>(
     ask: Ask,
     answer: Told,
 ) {
-    let call = view.call(ask);
     if let Told::Yes(..) = answer {
-        assert_eq!(rt; in_numbers(market.call(call)), answer, "{ask:?}, {view:?}");
+        answers(rt, market, view, ask, answer);
         return;
     }
     let before = look(market);
-    assert_eq!(rt; in_numbers(market.call(call)), answer, "{ask:?}, {view:?}");
+    answers(rt, market, view, ask, answer);
     assert_eq!(rt; look(market), before, "{ask:?}, {view:?}");
 }
 
-fn rests_for<R: QueueRule, C: Centre>(
+// The entry comes to the same outcome, lots resting and lots taken off under each number.
+fn does_for<R: QueueRule, C: Centre>(
     rt: &impl Abort,
     market: &mut Market<R, C>,
     view: View,
     numbers: (u32, u32),
     ask: Ask,
+    comes_to: (u8, u64, u64),
 ) {
     let (first, last) = numbers;
+    let (outcome, resting, taken_off) = comes_to;
     for number in first..=last {
-        does(rt, market, view, ask, Told::Yes(51, number, 0, 1, 0));
+        answers(
+            rt,
+            market,
+            view,
+            ask,
+            Told::Yes(outcome, number, 0, resting, taken_off),
+        );
     }
 }
 
@@ -145,7 +169,12 @@ fn take<R: QueueRule, C: Centre>(
 ) {
     match step {
         Step::Does(ask, answer) => does(rt, market, view, ask, answer),
-        Step::RestsFor(first, last, ask) => rests_for(rt, market, view, (first, last), ask),
+        Step::RestsFor(first, last, ask) => {
+            does_for(rt, market, view, (first, last), ask, (51, 1, 0))
+        }
+        Step::OffFor(first, last, ask) => {
+            does_for(rt, market, view, (first, last), ask, (53, 0, 1))
+        }
         Step::In(period) => {
             assert_eq!(rt; market.period(), period, "{view:?}");
         },
