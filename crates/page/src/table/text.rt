@@ -27,7 +27,7 @@ pub enum Flaw {
     Surplus,
 }
 
-// What a line of that text is told to be.
+// The words for a flaw, which follow the number of its line.
 impl fmt::Display for Flaw {
     ghost use Rattle.page.specs.Messages.{flaw_text};
     ghost use Rattle.std.specs.Prelude.{Some};
