@@ -83,4 +83,5 @@ def main():
         next_command(floor, rng)
 
 
-main()
+if __name__ == "__main__":
+    main()

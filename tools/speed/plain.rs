@@ -1,5 +1,5 @@
-// What `session` does, written in plain Rust from docs/ alone, to be measured beside it: one market by rate, over a
-// position centre with accounts 101, 102 and 103 and limit 50. Nothing here is proved.
+// What `session` does, written in plain Rust to be measured beside it: one market by rate, over a position centre with
+// accounts 101, 102 and 103 and limit 50. Nothing here is proved, and its author knew the source of `market`.
 use std::io::{self, BufRead, BufReader, BufWriter, Write};
 
 const MOST_ON_A_SIDE: u64 = 999_999_999;

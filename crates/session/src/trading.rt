@@ -31,6 +31,7 @@ pub fn trade<R: QueueRule, C: Centre, I: Read, O: Write + Drop>(
     // The desk writes the 86 bytes before the byte 10, which stays.
     let mut printed = [b'\n'; PRINTED];
     for number in 1..=LAST_LINE {
+        // A line that has all come is answered where it stands, and not copied.
         let buffer = input.buffer();
         if let Some(end) = memchr(b'\n', buffer) {
             answer(market, table, number, &buffer[..end], &mut printed).map_err(no_room)?;

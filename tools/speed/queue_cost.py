@@ -1,6 +1,6 @@
 """Prints what an entry and its withdrawal cost in a queue of so many orders, in instructions (callgrind).
 
-    queue.py PROGRAM..
+    queue_cost.py PROGRAM..
 
 Each pair enters a buy at the end or at the front of the queue and withdraws it. What it takes to fill the queue is not
 counted.
@@ -11,13 +11,11 @@ import subprocess
 import sys
 import tempfile
 
+from commands import fields
+
 PAIRS = 5000
 QUEUES = [0, 1, 8, 16, 32, 48, 63]
 PRICES = {"end": 1, "front": 9000}
-
-
-def fields(*numbers):
-    return "".join(" " * 11 if n is None else f"{n:11}" for n in numbers)
 
 
 def commands(resting, price, pairs):
