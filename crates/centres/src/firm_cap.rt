@@ -18,7 +18,7 @@ pub struct FirmCap<C> {
     firms: FirmTable,
 }
 
-impl<C: Centre + Drop> FirmCap<C> {
+impl<C: Centre> FirmCap<C> {
     pub fn new(below: C, firms: FirmTable) -> FirmCap<C>
         ensures below { result.below ≡ below }
         ensures firms { result.firms ≡ firms }
@@ -106,18 +106,29 @@ impl<C: Centre + Drop> FirmCap<C> {
     }
 }
 
-impl<C: Centre + Drop> Centre for FirmCap<C> {
+impl<C: Centre> Centre for FirmCap<C> {
     ghost lines = { λ s. C.Centre.lines s.below };
 
     ghost own = { λ s. cap_own (C.Centre.own s.below) s.firms.members s.firms.caps (layer_over (C.Centre.depth s.below)) };
 
     ghost depth = { λ s. layer_over (C.Centre.depth s.below) };
 
+    // The members with their firms, the caps, and the same below.
+    ghost same_settings = { λ s t. (s.firms ≡ t.firms) × C.Centre.same_settings s.below t.below };
+
     ghost sound = { Prim.search rules };
 
     ghost denies = { Prim.search rules };
 
     ghost shallow = { Prim.search rules };
+
+    ghost same_own = { Prim.search rules };
+
+    ghost same_depth = { Prim.search rules };
+
+    ghost same_self = { Prim.search rules };
+
+    ghost same_on = { Prim.search rules };
 
     fn depth(&self) -> u8 {
         self.layer()

@@ -37,3 +37,7 @@ AddedTo top c a n c' (Err d) = ((nat_le n top && can_add c.ledger.rows a) ≡ fa
 abbrev pub PartSettled : {R : Type 0} → AccountCentre R → Grant → ℕ → AccountCentre R → Result (Unit {0}) Denial → Type 0
 PartSettled c g n c' (Ok x) = (settles (lines_of c.ledger.rows) g n ≡ true) × Adjusted c.ledger.rows g.account (settle g.side n) c'.ledger.rows × (c'.rule ≡ c.rule)
 PartSettled c g n c' (Err d) = (settles (lines_of c.ledger.rows) g n ≡ false) × (d ≡ denied NotHeld 0) × (c'.ledger.rows ≡ c.ledger.rows) × (c'.rule ≡ c.rule)
+
+-- the rule, and the deposit or the limit of each account, are what they were
+abbrev pub SameAllowances : {R : Type 0} → AccountCentre R → AccountCentre R → Type 0
+SameAllowances c c' = (c.rule ≡ c'.rule) × (allowances_of c.ledger.rows ≡ allowances_of c'.ledger.rows)

@@ -1,6 +1,6 @@
 // A centre over a rule that judges each account by its own line: prepaid, or by position.
 ghost use Rattle.std.specs.Prelude.{◌≡◌, ℕ, [], IfOk, Ok};
-ghost use Rattle.clearing.specs.AccountCentre.{AddedTo, Judged, PartSettled, account_own};
+ghost use Rattle.clearing.specs.AccountCentre.{AddedTo, Judged, PartSettled, SameAllowances, account_own};
 ghost use Rattle.clearing.specs.Grant.{grant_of};
 ghost use Rattle.clearing.specs.Ledger.{Adjusted, allowances_of, lines_of};
 ghost use Rattle.clearing.specs.Line.{hold};
@@ -16,7 +16,7 @@ use crate::line::Line;
 use crate::side::Side;
 use std::alloc::{AllocError, Global};
 
-// The account of a row is judged by the rule R, at the allowance that the house set for it.
+/// The account of a row is judged by the rule R, at the allowance that the house set for it.
 #[derive(Drop)]
 pub struct AccountCentre<R> {
     rule: R,
@@ -24,7 +24,7 @@ pub struct AccountCentre<R> {
 }
 
 impl<R: AccountRule + Drop> AccountCentre<R> {
-    // A centre with no accounts, and room for 32. This is the last time that it asks for memory.
+    /// A centre with no accounts, and room for 32. This is the last time that it asks for memory.
     pub fn new(heap: Global, rule: R) -> Result<AccountCentre<R>, AllocError>
         ensures { IfOk result (λ s. (s.rule ≡ rule) × (s.ledger.rows ≡ [])) }
     {
@@ -32,7 +32,7 @@ impl<R: AccountRule + Drop> AccountCentre<R> {
         Ok(AccountCentre { rule, ledger })
     }
 
-    // Adds an account with its allowance: its deposit, or its limit.
+    /// Adds an account with its allowance: its deposit, or its limit.
     pub fn add(&mut self, account: i64, allowance: u64) -> Result<(), Denial>
         ensures { AddedTo R.AccountRule.top self.old account allowance self.new result }
     {
@@ -42,7 +42,7 @@ impl<R: AccountRule + Drop> AccountCentre<R> {
         self.ledger.add(account, allowance)
     }
 
-    // The deposit or the limit of an account, where it has a line.
+    /// The deposit or the limit of an account, where it has a line.
     pub fn allowance(&self, account: i64) -> Option<u64>
         ensures { result ≡ allowances_of self.now.ledger.rows account }
     {
@@ -95,11 +95,22 @@ impl<R: AccountRule + Drop> Centre for AccountCentre<R> {
 
     ghost depth = { λ _. 0 };
 
+    // The rule with its margin, and each account with its deposit or limit.
+    ghost same_settings = { SameAllowances };
+
     ghost sound = { λ s a. sound_lines s.ledger.rows a };
 
     ghost denies = { Prim.search rules };
 
     ghost shallow = { Prim.search rules };
+
+    ghost same_own = { Prim.search rules };
+
+    ghost same_depth = { Prim.search rules };
+
+    ghost same_self = { Prim.search rules };
+
+    ghost same_on = { Prim.search rules };
 
     fn depth(&self) -> u8 {
         0

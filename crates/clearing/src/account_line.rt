@@ -6,8 +6,8 @@ use crate::by_account::OfAccount;
 use crate::line::Line;
 use crate::side::Side;
 
-// An account with its allowance, the deposit or the limit that the house set for it, and its line, where each side's sum
-// is within its maximum.
+/// An account with its allowance, the deposit or the limit that the house set for it, and its line, where each side's sum
+/// is within its maximum.
 #[derive(Clone, Copy)]
 pub struct AccountLine {
     pub account: i64,

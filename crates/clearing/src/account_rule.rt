@@ -7,10 +7,10 @@ use crate::line::Line;
 use crate::side::Side;
 
 pub trait AccountRule {
-    // Whether the account's allowance and line leave room for new lots on a side.
+    /// Whether the account's allowance and line leave room for new lots on a side.
     ghost admits: { Self → ℕ → Line → Side → ℕ → Bool };
 
-    // The largest allowance that an account may have.
+    /// The largest allowance that an account may have.
     ghost top: { ℕ };
 
     fn admits(&self, allowance: u64, line: &Line, side: Side, lots: u64) -> bool

@@ -4,7 +4,7 @@ ghost use Rattle.std.proofs.Common.{rules};
 
 use ordered::Standing;
 
-// An item that belongs to an account.
+/// An item that belongs to an account.
 pub trait OfAccount {
     ghost account: { Self → ℤ };
 
@@ -12,7 +12,7 @@ pub trait OfAccount {
         ensures { result ≡ account self.now };
 }
 
-// Items stand by account, the smaller first.
+/// Items stand by account, the smaller first.
 #[derive(Clone, Copy)]
 pub struct ByAccount;
 

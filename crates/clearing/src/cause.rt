@@ -6,20 +6,20 @@ ghost use Rattle.clearing.specs.Words.{cause_text, denial_text, unknown_cause_te
 use std::error::Error;
 use std::fmt;
 
-// Each cause has its number.
+/// Each cause has its number.
 #[derive(Clone, Copy, PartialEq, Eq, Debug)]
 pub enum Cause {
-    // The account has no line.
+    /// The account has no line.
     NoLine = 1,
-    // The lots are outside 1 to 1,000,000, or the side's sum would pass its maximum.
+    /// Too few or too many lots (1 to 1,000,000 are allowed), or more than 999,999,999 held and settled on the side.
     OutOfRange = 2,
-    // The centre's own rule.
+    /// The centre's own rule.
     CentreRule = 3,
-    // A firm cap.
+    /// A firm cap.
     OverFirmCap = 4,
-    // More lots than the grant has, or than its line holds.
+    /// More lots than the grant has, or than its line holds.
     NotHeld = 5,
-    // A setting, an account or a firm that can't be had.
+    /// A setting, an account or a firm that can't be had.
     BadSetting = 6,
 }
 
@@ -31,7 +31,7 @@ impl Cause {
     }
 }
 
-// A number that no cause has.
+/// A number that no cause has.
 #[derive(Clone, Copy, PartialEq, Eq, Debug)]
 pub struct UnknownCause(pub u8);
 
@@ -79,7 +79,7 @@ impl fmt::Display for UnknownCause {
 
 impl Error for UnknownCause {}
 
-// A no, with the layer where it arose: 0 at the bottom, one more for each layer up.
+/// A no, with the number of the layer that says it, where the bottom has 0 and the first layer 1 (docs/CENTRE.md, section 2).
 #[derive(Clone, Copy, PartialEq, Eq, Debug)]
 pub struct Denial {
     pub cause: Cause,
@@ -110,7 +110,7 @@ impl fmt::Display for Denial {
 
 impl Error for Denial {}
 
-// The depth of a layer over one at this depth: it stops growing at 99.
+/// The depth of a layer over one at this depth: it stops growing at 99.
 pub fn one_up(depth: u8) -> u8
     ensures { result ≡ min (depth + 1) 99 }
 {

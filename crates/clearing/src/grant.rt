@@ -5,8 +5,8 @@ ghost use Rattle.clearing.specs.Grant.{at_rest, grant_of};
 use crate::resting::Resting;
 use crate::side::Side;
 
-// A grant: lots of an account and side that are held and belong to no order yet. It comes from a reservation or out of
-// a resting order, and ends by being settled, given back or put to rest. Only one for 0 lots may be let go.
+/// Lots of an account and side that are held and belong to no order yet. A grant comes from a reservation or out of a
+/// resting order, and ends by being settled, given back or put to rest. One that has lots cannot be let go.
 pub struct Grant {
     account: i64,
     side: Side,
@@ -24,19 +24,19 @@ impl Grant {
         }
     }
 
-    pub(crate) fn account(&self) -> i64
+    pub fn account(&self) -> i64
         ensures { result ≡ self.now.account }
     {
         self.account
     }
 
-    pub(crate) fn side(&self) -> Side
+    pub fn side(&self) -> Side
         ensures { result ≡ self.now.side }
     {
         self.side
     }
 
-    pub(crate) fn lots(&self) -> u64
+    pub fn lots(&self) -> u64
         ensures { result ≡ self.now.lots }
     {
         self.lots
@@ -56,7 +56,7 @@ impl Grant {
         self.lots = 0;
     }
 
-    // Puts the lots to rest, as part of an order.
+    /// Puts the lots to rest, as part of an order.
     pub fn rest(self) -> Resting
         ensures { result ≡ at_rest self }
     {

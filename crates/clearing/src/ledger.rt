@@ -18,7 +18,7 @@ use ordered::row::Row;
 use ordered::{find, lookup};
 use std::alloc::{AllocError, Global};
 
-// At most 32 rows, by account.
+/// At most 32 rows, by account.
 #[derive(Drop)]
 pub struct Ledger {
     rows: Row<AccountLine, 32>,

@@ -4,7 +4,7 @@ ghost use Rattle.clearing.specs.Line.{all_counts, empty, hold, in_range, on, rel
 
 use crate::side::Side;
 
-// The counts of one side: held for orders that rest or are being entered, and settled by trades.
+/// The counts of one side: held for orders that rest or are being entered, and settled by trades.
 #[derive(Clone, Copy, PartialEq, Eq, Debug)]
 pub struct Counts {
     pub held: u64,
@@ -12,7 +12,7 @@ pub struct Counts {
 }
 
 impl Counts {
-    // Held and settled together. A sum of two counts fits, whatever they are.
+    /// Held and settled together. A sum of two counts fits, whatever they are.
     pub fn sum(&self) -> u128
         ensures value { result ≡ self.now.held + self.now.settled }
         ensures bound { result < 2 ^ 65 }
@@ -28,7 +28,7 @@ pub struct Line {
 }
 
 impl Line {
-    // The line of an account with nothing held or settled.
+    /// The line of an account with nothing held or settled.
     pub fn new() -> Line
         ensures { result ≡ empty }
     {
@@ -51,7 +51,7 @@ impl Line {
         }
     }
 
-    // All four counts together.
+    /// All four counts together.
     pub fn total(&self) -> u128
         ensures value { result ≡ all_counts self.now }
         ensures bound { result < 2 ^ 66 }

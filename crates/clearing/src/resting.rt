@@ -5,8 +5,8 @@ ghost use Rattle.std.specs.Prelude.{◌≡◌};
 use crate::grant::Grant;
 use crate::side::Side;
 
-// The lots of a resting order: what a grant becomes when it is put to rest. Neither can be copied, so each lot that is
-// held is in one place. It goes with its order, and is let go only with it.
+/// The lots of a resting order: what a grant becomes when it is put to rest. Neither can be copied, so each lot that is
+/// held is in one place. It goes with its order, and is let go only with it.
 #[derive(Drop)]
 pub struct Resting {
     account: i64,
@@ -43,7 +43,7 @@ impl Resting {
         self.lots
     }
 
-    // Calls lots up out of the order, which is lowered by them; none where it has fewer.
+    /// Calls lots up out of the order, which is lowered by them; none where it has fewer.
     pub fn call_up(&mut self, lots: u64) -> Option<Grant>
         ensures { CalledUp self.old lots self.new result }
     {

@@ -5,16 +5,16 @@ ghost use Rattle.std.specs.Prelude.{◌≡◌, ◌-◌, ◌<◌, ◌≤◌, Bool
 ghost use Rattle.ordered.specs.Row.{Found, Lacks, at_key, in_order, place, to_end};
 ghost use Rattle.std.specs.List.{insert};
 
-pub mod kept;
+mod kept;
 pub mod row;
 
-// A standing order over items of the type T: which of two comes first in a row. The implementor is the comparator, so
-// that an order with settings of its own can be one.
+/// A standing order over items of the type T: which of two comes first in a row (docs/FLOOR.md, section 3). The
+/// implementor is the comparator, so that an order with settings of its own can be one.
 pub trait Standing<T> {
-    // What tells items apart.
+    /// What tells items apart.
     ghost key: { T → ℤ };
 
-    // Whether the first item stands before the second.
+    /// Whether the first item stands before the second.
     ghost stands: { Self → T → T → Bool };
 
     fn before(&self, a: &T, b: &T) -> bool
@@ -23,13 +23,13 @@ pub trait Standing<T> {
     fn key_of(&self, item: &T) -> i64
         ensures { result ≡ key item.now };
 
-    // No item stands before itself.
+    /// An item does not stand before itself.
     ghost irreflexive: { (s : Self) (x : T) → stands s x x ≡ false };
 
-    // What stands before an item stands before all that come after that one.
+    /// Standing before carries on: who stands before an item stands before whatever that item stands before.
     ghost transitive: { (s : Self) (x y z : T) → stands s x y ≡ true → stands s y z ≡ true → stands s x z ≡ true };
 
-    // Of two items with different keys exactly one stands before the other.
+    /// Two items that differ in their keys are always put one before the other, and never each before the other.
     ghost decided: { (s : Self) (x y : T) → (key x ≢ key y) → stands s x y ≡ not (stands s y x) };
 }
 
@@ -46,14 +46,14 @@ fn position<T, S: Standing<T>>(by: &S, row: &[T], item: &T) -> usize
     row.len()
 }
 
-// The place of the first item with a key, or none.
+/// The place of the first item with a key, or none.
 pub fn find<T, S: Standing<T>>(by: &S, row: &[T], wanted: i64) -> Option<usize>
     ensures { Found S.Standing.key row.now wanted result }
 {
     row.iter().position(|item| by.key_of(item) == wanted)
 }
 
-// A copy of the first item with a key, or none.
+/// A copy of the first item with a key, or none.
 pub fn lookup<T: Copy, S: Standing<T>>(by: &S, row: &[T], wanted: i64) -> Option<T>
     ensures { result ≡ at_key S.Standing.key row.now wanted }
 {
@@ -84,7 +84,7 @@ fn raise_last<T>(row: &mut [T], at: usize)
     }
 }
 
-// Moves the last item of the row to its place among the others, and answers the place.
+/// Moves the last item of the row to its place among the others, and answers the place.
 pub fn insert<T, S: Standing<T>>(by: &S, row: &mut [T]) -> usize
     ensures place { (xs : List T) (x : T) → row.old ≡ xs ++ x ∷ [] → result ≡ place (S.Standing.stands by.now) xs x }
     ensures after { (xs : List T) (x : T) → row.old ≡ xs ++ x ∷ [] → row.new ≡ insert xs result x }
@@ -105,7 +105,7 @@ fn sink<T>(row: &mut [T], at: usize)
     row[at..].rotate_left(1);
 }
 
-// Moves the item at a place behind all others, which stay in order; false where there is none, and nothing moves.
+/// Moves the item at a place behind all others, which stay in order; false where there is none, and nothing moves.
 pub fn remove<T>(row: &mut [T], at: usize) -> bool
     ensures test { result ≡ nat_lt at (length row.old) }
     ensures after { result ≡ true → row.new ≡ to_end row.old at }

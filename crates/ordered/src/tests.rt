@@ -115,6 +115,7 @@ fn keeps_a_row_within_its_room(rt: HostRuntime) -> Result<(), Fail> {
     assert_eq!(rt; row.add(&by, numbered(2)), Ok(0));
     assert!(rt; row.is_full());
     assert_eq!(rt; row.add(&by, numbered(3)), Err(numbered(3)));
+    assert_eq!(rt; row.push(numbered(3)), Err(numbered(3)));
     assert_eq!(rt; row.len(), 2);
     row.item_mut(1).mark = 1;
     assert_eq!(rt;
@@ -128,5 +129,7 @@ fn keeps_a_row_within_its_room(rt: HostRuntime) -> Result<(), Fail> {
         Some(Item { id: 5, mark: 1 })
     );
     assert_eq!(rt; lookup(&by, row.as_slice(), 2), None);
+    assert_eq!(rt; row.push(numbered(9)), Ok(()));
+    assert_eq!(rt; row.as_slice().len(), 2);
     Ok(())
 }
