@@ -15,7 +15,7 @@ pub fn enter<C: Centre>(
     lots: u64,
 ) -> Result<Resting, Denial>
     ensures lines { Entered (C.Centre.own centre.old) (C.Centre.lines centre.old) account side lots (C.Centre.lines centre.new) result }
-    ensures settings { C.Centre.own centre.new ≡ C.Centre.own centre.old }
+    ensures settings { C.Centre.same_settings centre.old centre.new }
 {
     Ok(centre.reserve(account, side, lots)?.rest())
 }
@@ -31,7 +31,7 @@ fn can_move<C: Centre>(centre: &C, order: &Resting, lots: u64) -> bool
 // Settles lots of a resting order, which is lowered by them.
 pub fn trade<C: Centre>(centre: &mut C, order: &mut Resting, lots: u64) -> Result<(), Denial>
     ensures lines { Traded (C.Centre.lines centre.old) order.old lots (C.Centre.lines centre.new) order.new result }
-    ensures settings { C.Centre.own centre.new ≡ C.Centre.own centre.old }
+    ensures settings { C.Centre.same_settings centre.old centre.new }
 {
     if !can_move(centre, order, lots) {
         return Err(Denial::new(Cause::NotHeld, 0));
@@ -44,7 +44,7 @@ pub fn trade<C: Centre>(centre: &mut C, order: &mut Resting, lots: u64) -> Resul
 // Gives back what is left of an order, and answers how many lots that was.
 pub fn withdraw<C: Centre>(centre: &mut C, order: &mut Resting) -> Result<u64, Denial>
     ensures lines { Withdrawn (C.Centre.lines centre.old) order.old (C.Centre.lines centre.new) order.new result }
-    ensures settings { C.Centre.own centre.new ≡ C.Centre.own centre.old }
+    ensures settings { C.Centre.same_settings centre.old centre.new }
 {
     let lots = order.lots();
     if !can_move(centre, order, lots) {

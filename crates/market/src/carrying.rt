@@ -42,8 +42,7 @@ pub(crate) fn reserve<C: Centre>(centre: &mut C, entry: &Entry, lots: u64) -> Gr
     requires { verdict (C.Centre.own centre.old) (C.Centre.lines centre.old) entry.now.account entry.now.side lots ≡ None }
     ensures lines { C.Centre.lines centre.new ≡ adjusted (C.Centre.lines centre.old) entry.now.account (held_line entry.now.side lots) }
     ensures grant { result ≡ grant_of entry.now.account entry.now.side lots }
-    ensures settings { C.Centre.own centre.new ≡ C.Centre.own centre.old }
-    ensures layers { C.Centre.depth centre.new ≡ C.Centre.depth centre.old }
+    ensures settings { C.Centre.same_settings centre.old centre.new }
 {
     centre.reserve(entry.account, entry.side, lots).unwrap()
 }
@@ -52,8 +51,7 @@ pub(crate) fn reserve<C: Centre>(centre: &mut C, entry: &Entry, lots: u64) -> Gr
 pub(crate) fn give_back<C: Centre>(centre: &mut C, grant: Grant)
     requires { holds (C.Centre.lines centre.old grant.account) grant.side grant.lots ≡ true }
     ensures lines { C.Centre.lines centre.new ≡ adjusted (C.Centre.lines centre.old) grant.account (released_line grant.side grant.lots) }
-    ensures settings { C.Centre.own centre.new ≡ C.Centre.own centre.old }
-    ensures layers { C.Centre.depth centre.new ≡ C.Centre.depth centre.old }
+    ensures settings { C.Centre.same_settings centre.old centre.new }
 {
     centre.give_back(grant).unwrap();
 }
@@ -63,8 +61,7 @@ fn settle<C: Centre>(centre: &mut C, grant: Grant, lots: u64) -> Grant
     requires { settles (C.Centre.lines centre.old) grant lots ≡ true }
     ensures lines { C.Centre.lines centre.new ≡ adjusted (C.Centre.lines centre.old) grant.account (settled_line grant.side lots) }
     ensures grant { result ≡ grant_of grant.account grant.side (grant.lots - lots) }
-    ensures settings { C.Centre.own centre.new ≡ C.Centre.own centre.old }
-    ensures layers { C.Centre.depth centre.new ≡ C.Centre.depth centre.old }
+    ensures settings { C.Centre.same_settings centre.old centre.new }
 {
     centre.settle(grant, lots).unwrap()
 }
@@ -86,14 +83,13 @@ fn trade_first<C: Centre>(
     requires can { CanTrade (C.Centre.lines centre.old) theirs.old.orders side me lots }
     ensures traded { TradedFirst side me lots (C.Centre.lines centre.old) theirs.old.orders register.old (C.Centre.lines centre.new) theirs.new.orders register.new }
     ensures grant { result ≡ grant_of me.account side (grant.lots - lots) }
-    ensures settings { C.Centre.own centre.new ≡ C.Centre.own centre.old }
-    ensures layers { C.Centre.depth centre.new ≡ C.Centre.depth centre.old }
+    ensures settings { C.Centre.same_settings centre.old centre.new }
 {
     let trade = trade_with(&theirs.as_slice()[0], side, me, lots);
     let resting = theirs.lower(0, lots);
     let rest = settle(centre, grant, lots);
     let _spent = settle(centre, resting, lots);
-    register.push(trade);
+    register.push(trade).unwrap();
     rest
 }
 
@@ -120,8 +116,7 @@ pub(crate) fn trade_on<C: Centre>(
     requires planned { Planned (C.Centre.lines centre.old) theirs.old.orders numbered.now.entry numbered.now.number lots trades }
     ensures carried { CarriedOut numbered.now.entry numbered.now.number lots trades (C.Centre.lines centre.old) theirs.old.orders register.old (C.Centre.lines centre.new) theirs.new.orders register.new result }
     ensures held { holds (C.Centre.lines centre.new numbered.now.entry.account) numbered.now.entry.side result.lots ≡ true }
-    ensures settings { C.Centre.own centre.new ≡ C.Centre.own centre.old }
-    ensures layers { C.Centre.depth centre.new ≡ C.Centre.depth centre.old }
+    ensures settings { C.Centre.same_settings centre.old centre.new }
 {
     let me = numbered.party();
     let mut rest = grant;

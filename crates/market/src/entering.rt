@@ -42,8 +42,7 @@ fn leave_rest<R: QueueRule, C: Centre>(
     requires held { holds (C.Centre.lines centre.old numbered.now.entry.account) numbered.now.entry.side rest.lots ≡ true }
     ensures queue { mine.new.orders ≡ (if rest_joins numbered.now.entry ending then joined (R.QueueRule.rule rule.now.rule) (order_of numbered.now.entry.account numbered.now.entry.side numbered.now.number numbered.now.entry.price rest.lots) mine.old.orders else mine.old.orders) }
     ensures lines { C.Centre.lines centre.new ≡ (if rest_joins numbered.now.entry ending then C.Centre.lines centre.old else adjusted (C.Centre.lines centre.old) numbered.now.entry.account (release numbered.now.entry.side rest.lots)) }
-    ensures settings { C.Centre.own centre.new ≡ C.Centre.own centre.old }
-    ensures layers { C.Centre.depth centre.new ≡ C.Centre.depth centre.old }
+    ensures settings { C.Centre.same_settings centre.old centre.new }
 {
     if rest_joins(&numbered.entry, ending) {
         let order = Order {
@@ -72,8 +71,7 @@ fn carry<R: QueueRule, C: Centre>(
     requires register { length register.old + plan.trades ≤ 512 }
     requires queue { rest_joins numbered.now.entry plan.ending ≡ true → length mine.old.orders < 64 }
     ensures entered { EnteredBook (R.QueueRule.rule rule.now.rule) numbered.now.entry numbered.now.number plan (C.Centre.lines centre.old) mine.old.orders theirs.old.orders register.old (C.Centre.lines centre.new) mine.new.orders theirs.new.orders register.new }
-    ensures settings { C.Centre.own centre.new ≡ C.Centre.own centre.old }
-    ensures layers { C.Centre.depth centre.new ≡ C.Centre.depth centre.old }
+    ensures settings { C.Centre.same_settings centre.old centre.new }
 {
     let lots = entry_lots(&numbered.entry);
     let grant = reserve(centre, &numbered.entry, lots);
@@ -114,8 +112,7 @@ impl<R: QueueRule> Book<R> {
         requires { Judged (R.QueueRule.rule self.old.rule.rule) (C.Centre.own centre.old) (state_of self.old) (C.Centre.lines centre.old) entry.now (Accepted plan) }
         ensures answered { entered (R.QueueRule.rule self.old.rule.rule) (state_of self.old) (C.Centre.lines centre.old) entry.now (walk_of (R.QueueRule.rule self.old.rule.rule) (state_of self.old) entry.now) ≡ done (state_of self.new) (C.Centre.lines centre.new) (Accepted result) }
         ensures rule { self.new.rule ≡ self.old.rule }
-        ensures settings { C.Centre.own centre.new ≡ C.Centre.own centre.old }
-        ensures layers { C.Centre.depth centre.new ≡ C.Centre.depth centre.old }
+        ensures settings { C.Centre.same_settings centre.old centre.new }
     {
         let number = self.last + 1;
         self.last = number;
@@ -151,8 +148,7 @@ impl<R: QueueRule> Book<R> {
         requires { is_trading self.old.sitting.period ≡ true }
         ensures answered { enter-result (R.QueueRule.rule self.old.rule.rule) (C.Centre.own centre.old) (state_of self.old) (C.Centre.lines centre.old) entry ≡ done (state_of self.new) (C.Centre.lines centre.new) result }
         ensures rule { self.new.rule ≡ self.old.rule }
-        ensures settings { C.Centre.own centre.new ≡ C.Centre.own centre.old }
-        ensures layers { C.Centre.depth centre.new ≡ C.Centre.depth centre.old }
+        ensures settings { C.Centre.same_settings centre.old centre.new }
     {
         let plan = self.judge(centre, &entry)?;
         Ok(self.carry_out(centre, &entry, plan))

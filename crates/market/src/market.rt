@@ -32,8 +32,7 @@ impl<R: QueueRule> Book<R> {
     pub(crate) fn call<C: Centre>(&mut self, centre: &mut C, call: Call) -> Reply
         ensures answered { answer (R.QueueRule.rule self.old.rule.rule) (C.Centre.own centre.old) (state_of self.old) (C.Centre.lines centre.old) call ≡ done (state_of self.new) (C.Centre.lines centre.new) result }
         ensures rule { self.new.rule ≡ self.old.rule }
-        ensures settings { C.Centre.own centre.new ≡ C.Centre.own centre.old }
-        ensures layers { C.Centre.depth centre.new ≡ C.Centre.depth centre.old }
+        ensures settings { C.Centre.same_settings centre.old centre.new }
     {
         if let Some(reply) = self.sitting.turn(call) {
             return reply;
@@ -84,8 +83,7 @@ impl<R: QueueRule, C: Centre> Market<R, C> {
         ensures answered { answer (R.QueueRule.rule self.old.book.rule.rule) (C.Centre.own self.old.centre) (state_of self.old.book) (C.Centre.lines self.old.centre) call ≡ done (state_of self.new.book) (C.Centre.lines self.new.centre) result }
         ensures law { CallKeepsTheLaw (R.QueueRule.rule self.old.book.rule.rule) (C.Centre.own self.old.centre) (state_of self.old.book) (C.Centre.lines self.old.centre) call result (state_of self.new.book) (C.Centre.lines self.new.centre) }
         ensures rule { self.new.book.rule ≡ self.old.book.rule }
-        ensures settings { C.Centre.own self.new.centre ≡ C.Centre.own self.old.centre }
-        ensures layers { C.Centre.depth self.new.centre ≡ C.Centre.depth self.old.centre }
+        ensures settings { C.Centre.same_settings self.old.centre self.new.centre }
     {
         self.book.call(&mut self.centre, call)
     }

@@ -26,7 +26,7 @@ pub fn run<R: QueueRule + Drop, C: Centre + Drop>(
     calls: &[Call],
 ) -> Result<Ran<R, C>, AllocError>
     ensures ran { IfOk result (λ x. IsRun (R.QueueRule.rule rule) (C.Centre.own centre) (C.Centre.lines centre) calls.now (state_of x.market.book) (C.Centre.lines x.market.centre) x.replies.items) }
-    ensures settings { IfOk result (λ x. (x.market.book.rule.rule ≡ rule) × (C.Centre.own x.market.centre ≡ C.Centre.own centre) × (C.Centre.depth x.market.centre ≡ C.Centre.depth centre)) }
+    ensures settings { IfOk result (λ x. (x.market.book.rule.rule ≡ rule) × C.Centre.same_settings centre x.market.centre) }
     ensures law { RunKeepsTheLaw (R.QueueRule.rule rule) (C.Centre.own centre) (C.Centre.lines centre) calls.now }
 {
     let mut market = Market::new(heap, rule, centre)?;

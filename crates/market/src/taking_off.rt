@@ -120,8 +120,7 @@ impl<R: QueueRule> Book<R> {
         requires in_step { (d : Order) → out_of_step (state_of self.old) (C.Centre.lines centre.old) (account_of (order_at (state_of self.old) place d)) (side_of (order_at (state_of self.old) place d)) ≡ false }
         ensures taken { (d : Order) → TakenOffBook (state_of self.old) (C.Centre.lines centre.old) (order_at (state_of self.old) place d) lots (state_of self.new) (C.Centre.lines centre.new) result }
         ensures rule { self.new.rule ≡ self.old.rule }
-        ensures settings { C.Centre.own centre.new ≡ C.Centre.own centre.old }
-        ensures layers { C.Centre.depth centre.new ≡ C.Centre.depth centre.old }
+        ensures settings { C.Centre.same_settings centre.old centre.new }
     {
         let order = self.order(place);
         let figures = Figures {
@@ -140,8 +139,7 @@ impl<R: QueueRule> Book<R> {
         requires { is_unopened self.old.sitting.period ≡ false }
         ensures answered { withdrawn-by (state_of self.old) (C.Centre.lines centre.old) account number ≡ done (state_of self.new) (C.Centre.lines centre.new) result }
         ensures rule { self.new.rule ≡ self.old.rule }
-        ensures settings { C.Centre.own centre.new ≡ C.Centre.own centre.old }
-        ensures layers { C.Centre.depth centre.new ≡ C.Centre.depth centre.old }
+        ensures settings { C.Centre.same_settings centre.old centre.new }
     {
         let place = self.named(number).ok_or(Refusal::NoSuchOrder)?;
         let order = self.order(place);
@@ -161,8 +159,7 @@ impl<R: QueueRule> Book<R> {
         requires { is_unopened self.old.sitting.period ≡ false }
         ensures answered { reduced-by (state_of self.old) (C.Centre.lines centre.old) account number lots ≡ done (state_of self.new) (C.Centre.lines centre.new) result }
         ensures rule { self.new.rule ≡ self.old.rule }
-        ensures settings { C.Centre.own centre.new ≡ C.Centre.own centre.old }
-        ensures layers { C.Centre.depth centre.new ≡ C.Centre.depth centre.old }
+        ensures settings { C.Centre.same_settings centre.old centre.new }
     {
         let place = self.named(number).ok_or(Refusal::NoSuchOrder)?;
         let order = self.order(place);
