@@ -1,5 +1,5 @@
 -- The law over runs, told from the history and the register: what rests, and what holds of the queues, of each account's
--- lots and of each trade. Neither the walk nor a call is named. Assumes nothing.
+-- lots, of each trade and of their sequence. Neither the walk nor a call is named. Assumes nothing.
 use Rattle.std.specs.Prelude.{◌≡◌, ℕ, suc, ◌+◌, ◌<◌, ◌≤◌, min, max, true, false, cond, ◌⊎◌, List, [], ◌∷◌, ◌++◌, map, length, take, ℤ, ◌-ℤ◌, Some, None, Ok, Err, filter, Option, ◌==◌, nat_lt, unsigned_abs}
 use Rattle.ordered.specs.Key.{eq_z}
 use Rattle.ordered.specs.Row.{in_order}
@@ -190,7 +190,7 @@ off_after a s earlier (x ∷ E) = off_by a s earlier x + off_after a s (earlier 
 abbrev pub lots_off : List Event → ℤ → Side → ℕ
 lots_off E a s = off_after a s [] E
 
--- lots in the register: each trade counts for the buy's account and side and for the sell's
+-- lots in the register: those of a trade count twice, as bought by one account and as sold by the other
 abbrev pub lots_registered : List Trade → ℤ → Side → ℕ
 lots_registered G a s = total (λ t. counted a s t.buy.account Buy t.lots + counted a s t.sell.account Sell t.lots) G
 
@@ -223,7 +223,7 @@ pub record First (R : Rule) (E : List Event) (G : List Trade) (o : Order) : Type
 abbrev pub trades_before : ℕ → List Trade → List Trade
 trades_before k G = filter (λ t. nat_lt (entry_number t) k) G
 
--- the price of o is within the deviation of the price that stood first on its side when the entry numbered k came
+-- o is priced no further than the deviation from the head that its side had when the entry numbered k came
 pub record Near (R : Rule) (E : List Event) (G : List Trade) (k : ℕ) (o : Order) : Type 0 where
   pub head : Order
   pub stood_first : First R E (trades_before k G) head
@@ -255,6 +255,14 @@ pub record Joined (R : Rule) (E : List Event) (G : List Trade) (t : Trade) : Typ
   pub came : E ≡ earlier ++ entered entry answer ∷ later
   pub matched : Matched R earlier G entry answer.number t
 
+-- The sequence of the register
+
+-- trades stand as they were made: the number of the entry never falls from a trade to the next, from n on. Entries are
+-- numbered as they come, and among the trades of one entry `priority` tells which was first
+abbrev pub InSequence : ℕ → List Trade → Type 0
+InSequence n [] = Unit {0}
+InSequence n (t ∷ G) = (n ≤ entry_number t) × InSequence (entry_number t) G
+
 -- The law
 
 -- accepted entries are numbered one after another
@@ -271,6 +279,7 @@ pub record Keeps (R : Rule) (E : List Event) (S : State) (L : Lines) : Type 0 wh
   pub uncrossed : (b s : Order) → In b S.buys → In s S.sells → R.meets (quote_of b) (quote_of s) ≡ false
   pub balanced : (a : ℤ) (s : Side) → Balanced E S L a s
   pub priority : (G : List Trade) (t : Trade) (later : List Trade) → S.register ≡ G ++ t ∷ later → Joined R E G t
+  pub sequence : InSequence 0 S.register
 
 -- what every day keeps
 abbrev pub LawfulDay : Rule → Day → Type 0
