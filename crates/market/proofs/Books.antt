@@ -8,7 +8,7 @@ use Rattle.clearing.specs.declared.side.Side.{Side}
 use Rattle.clearing.specs.declared.side.Side.TheVariants.{Buy, Sell}
 use Rattle.market.proofs.Histories.{entries, not_numbered}
 use Rattle.market.proofs.Walking.{Prefixed}
-use Rattle.market.specs.Law.{Event, In, InSequence, Joined, Keeps, Kept, Numbered, deviation_after, entered, entry_number, held_on, lessened_lots, lots_accepted, lots_off, lots_queued, lots_registered, numbered, resting_number, settled_on, traded_away}
+use Rattle.market.specs.Law.{Event, In, InSequence, Joined, Keeps, Kept, Numbered, deviation_after, entered, entry_number, held_on, lessened_lots, lots_accepted, lots_off, lots_queued, lots_registered, numbered, resting_number, settled_on, traded_away, traded_by}
 use Rattle.market.specs.Order.{quote_of}
 use Rattle.market.specs.Rule.{Rule, meets_across}
 use Rattle.market.specs.State.{State, queue_of, with_book}
@@ -153,4 +153,13 @@ none_traded k (t ∷ G) all =
     let x = none_traded k G all.1 in
     let h = all.0 in
     let y = cond-false (eqb (resting_number t) k) t.lots 0 (ne_eqb _ _ (λ e. omega arith)) in
+    omega arith
+
+-- an entry whose number is above those of all entries that traded has made no trade
+pub none_made : (k : ℕ) (G : List Trade) → AllByRecursion (λ t. entry_number t < k) G → traded_by G k ≡ 0
+none_made k [] all = refl
+none_made k (t ∷ G) all =
+    let x = none_made k G all.1 in
+    let h = all.0 in
+    let y = cond-false (eqb (entry_number t) k) t.lots 0 (ne_eqb _ _ (λ e. omega arith)) in
     omega arith

@@ -14,7 +14,7 @@ use Rattle.dealing.specs.declared.call.Entry.{Entry}
 use Rattle.dealing.specs.declared.call.Kind.{Kind}
 use Rattle.dealing.specs.declared.call.Kind.TheVariants.{Limited, Market}
 use Rattle.dealing.specs.declared.outcome.Figures.{Figures}
-use Rattle.market.proofs.Books.{Book, Reached, book_of, fresh_numbers, joined_later, none_traded, prefixed_at, reached_of, sequence_on, split_at}
+use Rattle.market.proofs.Books.{Book, Reached, book_of, fresh_numbers, joined_later, none_made, none_traded, prefixed_at, reached_of, sequence_on, split_at}
 use Rattle.market.proofs.Counts.{counted_none, counted_self, held_held, held_released, settled_released, total_inserted}
 use Rattle.market.proofs.Histories.{deviation-append, entries_append, numbered_on, off-push, total-push}
 use Rattle.market.proofs.Joining.{in_inserted, kept_joined, kept_without}
@@ -102,6 +102,7 @@ module _ (R : Rule) (lawful : Lawful R) (E : List Event) (S : State) (L : Lines)
     held = λ a z. let i = book.held a z in let h = (held_held L e.account s (entry_lots e) l has a z).0 in omega arith;
     settled = λ a z. (held_held L e.account s (entry_lots e) l has a z).1 ∙ book.settled a z;
     earlier = all_before k G (All-weaker _ _ (λ t h. omega arith) G r.trades);
+    left = let i = none_made k G (All-weaker _ _ (λ t h. omega arith) G r.trades) in omega arith;
   }
 
   goes : WalkedOn R E e k mine G eligible G (entry_lots e) reserved w

@@ -1,6 +1,6 @@
 -- The law over runs, told from the history and the register: what rests, and what holds of the queues, of each account's
 -- lots, of each trade and of their sequence. Neither the walk nor a call is named. Assumes nothing.
-use Rattle.std.specs.Prelude.{◌≡◌, ℕ, suc, ◌+◌, ◌<◌, ◌≤◌, min, max, true, false, cond, ◌⊎◌, List, [], ◌∷◌, ◌++◌, map, length, take, ℤ, ◌-ℤ◌, Some, None, Ok, Err, filter, Option, ◌==◌, nat_lt, unsigned_abs}
+use Rattle.std.specs.Prelude.{◌≡◌, ℕ, suc, ◌+◌, ◌-◌, ◌<◌, ◌≤◌, min, max, true, false, cond, ◌⊎◌, List, [], ◌∷◌, ◌++◌, map, length, take, ℤ, ◌-ℤ◌, Some, None, Ok, Err, filter, Option, ◌==◌, nat_lt, unsigned_abs}
 use Rattle.ordered.specs.Key.{eq_z}
 use Rattle.ordered.specs.Row.{in_order}
 use Rattle.clearing.specs.Centre.{Lines, Own}
@@ -235,7 +235,12 @@ abbrev pub Eligible : Kind → Rule → List Event → List Trade → Entry → 
 Eligible Limited R E G e k o = meets_across R e.side (quoted e.side e.price k) (quote_of o) ≡ true
 Eligible Market R E G e k o = Near R E G k o
 
--- the trade t joins the entry e, numbered k, with the first order of the other side, after the events E and the trades G
+-- lots of the trades that the entry numbered k has made
+abbrev pub traded_by : List Trade → ℕ → ℕ
+traded_by G k = total (λ t. cond (entry_number t == k) t.lots 0) G
+
+-- the trade t joins the entry e, numbered k, with the first order of the other side, after the events E and the trades G, for
+-- as many lots as both have left
 pub record Matched (R : Rule) (E : List Event) (G : List Trade) (e : Entry) (k : ℕ) (t : Trade) : Type 0 where
   pub order : Order
   pub first : First R E G order
@@ -244,7 +249,8 @@ pub record Matched (R : Rule) (E : List Event) (G : List Trade) (e : Entry) (k :
   pub eligible : Eligible e.kind R E G e k order
   pub recorded : t ≡ trade_of e.side (party k e.account) order t.lots
   pub earlier : order.number < k
-  pub lots : (1 ≤ t.lots) × (t.lots ≤ lots_of order)
+  pub lots : t.lots ≡ min (unsigned_abs e.lots - traded_by G k) (lots_of order)
+  pub some : 1 ≤ t.lots
 
 -- the trade t, made after the trades G, joined an accepted entry of the history
 pub record Joined (R : Rule) (E : List Event) (G : List Trade) (t : Trade) : Type 0 where
@@ -258,7 +264,7 @@ pub record Joined (R : Rule) (E : List Event) (G : List Trade) (t : Trade) : Typ
 -- The sequence of the register
 
 -- trades stand as they were made: the number of the entry never falls from a trade to the next, from n on. Entries are
--- numbered as they come, and among the trades of one entry `priority` tells which was first
+-- numbered as they come, and `priority` tells each trade of an entry from those before it
 abbrev pub InSequence : ℕ → List Trade → Type 0
 InSequence n [] = Unit {0}
 InSequence n (t ∷ G) = (n ≤ entry_number t) × InSequence (entry_number t) G
