@@ -240,7 +240,7 @@ abbrev pub traded_by : List Trade → ℕ → ℕ
 traded_by G k = total (λ t. cond (entry_number t == k) t.lots 0) G
 
 -- the trade t joins the entry e, numbered k, with the first order of the other side, after the events E and the trades G, for
--- as many lots as both have left
+-- the smaller of the lots that the two have left
 pub record Matched (R : Rule) (E : List Event) (G : List Trade) (e : Entry) (k : ℕ) (t : Trade) : Type 0 where
   pub order : Order
   pub first : First R E G order
@@ -264,7 +264,7 @@ pub record Joined (R : Rule) (E : List Event) (G : List Trade) (t : Trade) : Typ
 -- The sequence of the register
 
 -- trades stand as they were made: the number of the entry never falls from a trade to the next, from n on. Entries are
--- numbered as they come, and `priority` tells each trade of an entry from those before it
+-- numbered as they come, and within the trades of one entry `priority` settles which came first
 abbrev pub InSequence : ℕ → List Trade → Type 0
 InSequence n [] = Unit {0}
 InSequence n (t ∷ G) = (n ≤ entry_number t) × InSequence (entry_number t) G

@@ -1,7 +1,10 @@
 // The law over runs, proved of the definitions: the gate asks for a theorem's proof where a contract names it.
 ghost use Rattle.market.specs.Law.{EveryRunKeepsTheLaw};
 ghost use Rattle.market.specs.Wrong.{
-    ExchangedTradesAreRefused, HeadOnlyIsRefused, IdleCentreIsRefused, InventedLotsAreRefused
+  ExchangedTradesAreRefused,
+  HeadOnlyIsRefused,
+  IdleCentreIsRefused,
+  InventedLotsAreRefused,
 };
 
 /// Every run of the six calls keeps the law, at its start and after each call.
