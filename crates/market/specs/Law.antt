@@ -301,6 +301,13 @@ RunKeepsTheLaw R C L calls =
 abbrev pub EveryRunKeepsTheLaw : Type 0
 EveryRunKeepsTheLaw = (R : Rule) → Lawful R → (C : Own) (L : Lines) (calls : List Call) → RunKeepsTheLaw R C L calls
 
+-- how far the law settles the register: two markets that keep it over one history, and in which each entry traded as many
+-- lots, have the same trades in the same sequence
+abbrev pub LawPinsTheRegister : Type 0
+LawPinsTheRegister =
+    (R : Rule) → Lawful R → (E : List Event) (S T : State) (L M : Lines) → Keeps R E S L → Keeps R E T M →
+    ((k : ℕ) → traded_by S.register k ≡ traded_by T.register k) → S.register ≡ T.register
+
 -- A market as it is after some calls
 
 -- calls to a new market over the lines L₀, with nothing held or settled, led to this state and these lines
