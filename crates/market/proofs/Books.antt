@@ -8,7 +8,7 @@ use Rattle.clearing.specs.declared.side.Side.{Side}
 use Rattle.clearing.specs.declared.side.Side.TheVariants.{Buy, Sell}
 use Rattle.market.proofs.Histories.{entries, not_numbered}
 use Rattle.market.proofs.Walking.{Prefixed}
-use Rattle.market.specs.Law.{Event, In, Joined, Keeps, Kept, Numbered, deviation_after, entered, entry_number, held_on, lessened_lots, lots_accepted, lots_off, lots_queued, lots_registered, numbered, resting_number, settled_on, traded_away}
+use Rattle.market.specs.Law.{Event, In, InSequence, Joined, Keeps, Kept, Numbered, deviation_after, entered, entry_number, held_on, lessened_lots, lots_accepted, lots_off, lots_queued, lots_registered, numbered, resting_number, settled_on, traded_away, traded_by}
 use Rattle.market.specs.Order.{quote_of}
 use Rattle.market.specs.Rule.{Rule, meets_across}
 use Rattle.market.specs.State.{State, queue_of, with_book}
@@ -25,6 +25,7 @@ pub record Book (R : Rule) (E : List Event) (s : Side) (mine theirs : List Order
   pub held : (a : ℤ) (z : Side) → held_on (L a) z ≡ lots_queued mine a z + lots_queued theirs a z
   pub settled : (a : ℤ) (z : Side) → settled_on (L a) z ≡ lots_registered G a z
   pub priority : (before : List Trade) (t : Trade) (later : List Trade) → G ≡ before ++ t ∷ later → Joined R E before t
+  pub sequence : InSequence 0 G
 
 module _ (R : Rule) (E : List Event) (L : Lines) where
   -- the law from either side
@@ -38,6 +39,7 @@ module _ (R : Rule) (E : List Event) (L : Lines) where
     held = λ a z. (k.balanced a z).held;
     settled = λ a z. (k.balanced a z).settled;
     priority = k.priority;
+    sequence = k.sequence;
   }
   book_of S Sell k = record {
     numbers = k.numbers;
@@ -48,6 +50,7 @@ module _ (R : Rule) (E : List Event) (L : Lines) where
     held = λ a z. let x = (k.balanced a z).held in omega arith;
     settled = λ a z. (k.balanced a z).settled;
     priority = k.priority;
+    sequence = k.sequence;
   }
 
   both_queues : (S : State) → Kept R E S.register Buy S.buys → Kept R E S.register Sell S.sells → (s : Side) → Kept R E S.register s (queue_of s S)
@@ -62,6 +65,7 @@ module _ (R : Rule) (E : List Event) (L : Lines) where
     uncrossed = λ x y. b.apart x y;
     balanced = λ a z. record { sums = b.sums a z; held = b.held a z; settled = b.settled a z };
     priority = b.priority;
+    sequence = b.sequence;
   }
 
   pub book_keeps : (s : Side) (mine theirs : List Order) (k : ℕ) (G : List Trade) (S : State) → Book R E s mine theirs G L → Keeps R E (with_book s mine theirs k G S) L
@@ -76,6 +80,7 @@ module _ (R : Rule) (E : List Event) (L : Lines) where
         held = λ a z. let x = b.held a z in omega arith;
         settled = b.settled;
         priority = b.priority;
+        sequence = b.sequence;
       })
 
 -- Trades and the history that they joined
@@ -109,6 +114,16 @@ split_at (x ∷ xs) ys (b ∷ before) t later e =
       | inr found ↦ inr (found.0, found.1, ap₂ (λ y l. y ∷ l) (sym h) found.2)
     ]
 
+-- trades of one entry stand in sequence
+one_entry : (n k : ℕ) (T : List Trade) → n ≤ k → AllByRecursion (λ t. entry_number t ≡ k) T → InSequence n T
+one_entry n k [] h all = tt
+one_entry n k (t ∷ T) h all = let e = all.0 in (omega arith, one_entry (entry_number t) k T (omega arith) all.1)
+
+-- trades stay in sequence with those of an entry that came after all of theirs
+pub sequence_on : (n k : ℕ) (G T : List Trade) → n ≤ k → InSequence n G → AllByRecursion (λ t. entry_number t ≤ k) G → AllByRecursion (λ t. entry_number t ≡ k) T → InSequence n (G ++ T)
+sequence_on n k [] T h s up new = one_entry n k T h new
+sequence_on n k (t ∷ G) T h s up new = (s.0, sequence_on (entry_number t) k G T up.0 s.1 up.1 new)
+
 -- What is known besides
 
 -- the law; the last number is that of the last entry; trades and lots taken off are of orders up to it; the deviation is the
@@ -138,4 +153,13 @@ none_traded k (t ∷ G) all =
     let x = none_traded k G all.1 in
     let h = all.0 in
     let y = cond-false (eqb (resting_number t) k) t.lots 0 (ne_eqb _ _ (λ e. omega arith)) in
+    omega arith
+
+-- an entry whose number is above those of all entries that traded has made no trade
+pub none_made : (k : ℕ) (G : List Trade) → AllByRecursion (λ t. entry_number t < k) G → traded_by G k ≡ 0
+none_made k [] all = refl
+none_made k (t ∷ G) all =
+    let x = none_made k G all.1 in
+    let h = all.0 in
+    let y = cond-false (eqb (entry_number t) k) t.lots 0 (ne_eqb _ _ (λ e. omega arith)) in
     omega arith

@@ -14,7 +14,7 @@ use Rattle.dealing.specs.declared.call.Entry.{Entry}
 use Rattle.dealing.specs.declared.call.Kind.{Kind}
 use Rattle.dealing.specs.declared.call.Kind.TheVariants.{Limited, Market}
 use Rattle.dealing.specs.declared.outcome.Figures.{Figures}
-use Rattle.market.proofs.Books.{Book, Reached, book_of, fresh_numbers, joined_later, none_traded, prefixed_at, reached_of, split_at}
+use Rattle.market.proofs.Books.{Book, Reached, book_of, fresh_numbers, joined_later, none_made, none_traded, prefixed_at, reached_of, sequence_on, split_at}
 use Rattle.market.proofs.Counts.{counted_none, counted_self, held_held, held_released, settled_released, total_inserted}
 use Rattle.market.proofs.Histories.{deviation-append, entries_append, numbered_on, off-push, total-push}
 use Rattle.market.proofs.Joining.{in_inserted, kept_joined, kept_without}
@@ -22,7 +22,7 @@ use Rattle.market.proofs.Resting.{gone, pass_in}
 use Rattle.market.proofs.Walking.{Prefixed, Stopped, WalkedOn, walk_goes}
 use Rattle.market.proofs.Walks.{Midway, head_first, other_differs}
 use Rattle.market.specs.Calls.{entry_lots, figures_of, is_short, settle_trades, walk_of}
-use Rattle.market.specs.Law.{Eligible, Event, First, In, Joined, Kept, Matched, Numbered, accepted_by, counted, deviation_after, entered, entry_number, held_on, lessened_by, numbered, resting_number, trades_before}
+use Rattle.market.specs.Law.{Eligible, Event, First, In, InSequence, Joined, Kept, Matched, Numbered, accepted_by, counted, deviation_after, entered, entry_number, held_on, lessened_by, numbered, resting_number, trades_before}
 use Rattle.market.specs.Order.{account_of, before, joined, lots_of, order_of, quote_of, side_of, sided}
 use Rattle.market.specs.Rule.{Lawful, Rule, meets_across}
 use Rattle.market.specs.State.{State, queue_of, with_book}
@@ -102,6 +102,7 @@ module _ (R : Rule) (lawful : Lawful R) (E : List Event) (S : State) (L : Lines)
     held = λ a z. let i = book.held a z in let h = (held_held L e.account s (entry_lots e) l has a z).0 in omega arith;
     settled = λ a z. (held_held L e.account s (entry_lots e) l has a z).1 ∙ book.settled a z;
     earlier = all_before k G (All-weaker _ _ (λ t h. omega arith) G r.trades);
+    left = let i = none_made k G (All-weaker _ _ (λ t h. omega arith) G r.trades) in omega arith;
   }
 
   goes : WalkedOn R E e k mine G eligible G (entry_lots e) reserved w
@@ -123,6 +124,11 @@ module _ (R : Rule) (lawful : Lawful R) (E : List Event) (S : State) (L : Lines)
       let x = none_traded k G' (All-append (λ t. resting_number t < k) G w.trades old new) in
       let y = r.lessened k (omega arith) in
       omega arith
+
+  -- the entry's trades come after those of all earlier entries
+  sequence : InSequence 0 G'
+  sequence =
+      sequence_on 0 k G w.trades (omega arith) book.sequence (All-weaker _ _ (λ t h. omega arith) G r.trades) (All-weaker _ _ (λ t h. h.0) w.trades goes.numbers)
 
   module _ (f : Figures) (its : f.number ≡ k) where
     abbrev E' : List Event
@@ -181,6 +187,7 @@ module _ (R : Rule) (lawful : Lawful R) (E : List Event) (S : State) (L : Lines)
         held = λ a z. let i = mid.held a z in let y = total_inserted (λ o. counted a z (account_of o) (side_of o) (lots_of o)) mine (place (sided R) mine x) x in omega arith;
         settled = mid.settled;
         priority = priority f refl;
+        sequence = sequence;
       })
 
   -- the rest is taken off, where there is any
@@ -197,4 +204,5 @@ module _ (R : Rule) (lawful : Lawful R) (E : List Event) (S : State) (L : Lines)
         held = λ a z. let i = mid.held a z in let h = held_released settled_lines e.account s w.left enough a z in omega arith;
         settled = λ a z. settled_released settled_lines e.account s w.left enough a z ∙ mid.settled a z;
         priority = priority f refl;
+        sequence = sequence;
       })

@@ -65,6 +65,7 @@ module _ (R : Rule) (E : List Event) (x : Event) (quiet : Quiet x) where
     held = b.held;
     settled = b.settled;
     priority = λ before t later e. joined_later R E (x ∷ []) before t (b.priority before t later e);
+    sequence = b.sequence;
   }
 
   -- a state with the same book, under the deviation that is then told
@@ -161,6 +162,7 @@ module _ (R : Rule) (lawful : Lawful R) (E : List Event) (S : State) (L : Lines)
         held = λ a z. let i = book.held a z in let q = queued_lower a z o.number n mine d o there refl fits in let h = held_released L (account_of o) s n enough a z in omega arith;
         settled = λ a z. settled_released L (account_of o) s n enough a z ∙ book.settled a z;
         priority = λ before t later e. joined_later R E (lessened f ∷ []) before t (book.priority before t later e);
+        sequence = book.sequence;
       }
 
   -- the order's number was given

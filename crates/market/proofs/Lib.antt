@@ -9,6 +9,7 @@ pub mod Joining
 pub mod Lessening
 pub mod Lowering
 pub mod Namings
+pub mod Pinned
 pub mod PlanTables
 pub mod QueueTables
 pub mod Refusals

@@ -179,6 +179,7 @@ new_keeps R L clear = record {
     held = λ a z. empty_held (L a) (clear a) z;
     settled = λ a z. empty_settled (L a) (clear a) z;
     priority = λ before t later e. no_trade before t later e;
+    sequence = tt;
   });
   count = refl;
   trades = tt;

@@ -1,5 +1,5 @@
 -- A walk from its first trade to its end. Assumes nothing.
-use Rattle.std.proofs.Common.{◌≡◌, ℕ, ◌-◌, ◌<◌, ◌≤◌, Bool, true, false, not, eqb, leb, List, [], ◌∷◌, ◌++◌, None, sym, refl, ap, ◌∙◌, subst, inl, append_assoc, append-nil, arith}
+use Rattle.std.proofs.Common.{◌≡◌, ℕ, ◌-◌, ◌<◌, ◌≤◌, min, Bool, true, false, not, eqb, leb, List, [], ◌∷◌, ◌++◌, None, sym, refl, ap, ◌∙◌, subst, inl, append_assoc, append-nil, arith}
 use Rattle.std.specs.List.{AllByRecursion}
 use Rattle.std.proofs.lemmas.Bool.{cond_both, eqb-false, eqb-true, false≢true, leb-false, leb-true, not-false, not-true}
 use Rattle.ordered.specs.Key.{eq_z}
@@ -81,12 +81,12 @@ module _ (R : Rule) (lawful : Lawful R) (E : List Event) (e : Entry) (k : ℕ) (
       (ap entry_number m.recorded ∙ trade_entry e.side me m.order t.lots h, omega arith)
 
   -- one trade, with as many lots as the entry and the first order both have
-  trades : (n m : ℕ) (o : Order) (q q' : List Order) → 1 ≤ m → m ≤ n → m ≤ lots_of o → eligible o ≡ true → (account_of o ≡ e.account → ⊥) → lower o.number m (o ∷ q) ≡ q' → (G : List Trade) (L : Lines) → Midway R E e k mine G₀ G n (o ∷ q) L →
+  trades : (n m : ℕ) (o : Order) (q q' : List Order) → 1 ≤ m → m ≡ min n (lots_of o) → eligible o ≡ true → (account_of o ≡ e.account → ⊥) → lower o.number m (o ∷ q) ≡ q' → (G : List Trade) (L : Lines) → Midway R E e k mine G₀ G n (o ∷ q) L →
       let t = trade_of e.side (party k e.account) o m in Midway R E e k mine G₀ (G ++ t ∷ []) (n - m) q' (settle_trade L t) × Matched R E G e k t
-  trades n m o q q' some hn ho el ne after G L mid =
+  trades n m o q q' some least el ne after G L mid =
       let t : Trade = trade_of e.side (party k e.account) o m in (
-        subst (λ l. Midway R E e k mine G₀ (G ++ t ∷ []) (n - m) l (settle_trade L t)) after (mid_trade R lawful E e k mine G₀ fresh G n o q L mid m hn ho),
-        head_matched R lawful E e k mine G₀ fresh G n o q L mid m some ho ne (means G mid.earlier o (mid.theirs_kept.rest o (inl refl)).1 el),
+        subst (λ l. Midway R E e k mine G₀ (G ++ t ∷ []) (n - m) l (settle_trade L t)) after (mid_trade R lawful E e k mine G₀ fresh G n o q L mid m (omega arith) (omega arith)),
+        head_matched R lawful E e k mine G₀ fresh G n o q L mid m some least ne (means G mid.earlier o (mid.theirs_kept.rest o (inl refl)).1 el),
       )
 
   pub walk_goes : (n : ℕ) (q : List Order) → Goes n q (walk eligible e k n q)
@@ -99,7 +99,7 @@ module _ (R : Rule) (lawful : Lawful R) (E : List Event) (e : Entry) (k : ℕ) (
       (λ n o q w some el ne all go G L mid.
       let t : Trade = trade_of e.side (party k e.account) o (lots_of o) in
       let left = (mid.theirs_kept.rest o (inl refl)).0.left in
-      let one = trades n (lots_of o) o q q left all (omega arith) el ne (lower_first-all o q) G L mid in
+      let one = trades n (lots_of o) o q q left (omega arith) el ne (lower_first-all o q) G L mid in
       let on = go (G ++ t ∷ []) (settle_trade L t) one.0 in
       record {
         after = subst (λ H. Midway R E e k mine G₀ H w.left w.queue (settle_trades (settle_trade L t) w.trades)) (append_assoc G (t ∷ []) w.trades) on.after;
@@ -110,7 +110,7 @@ module _ (R : Rule) (lawful : Lawful R) (E : List Event) (e : Entry) (k : ℕ) (
       })
       (λ n o q some el ne part G L mid.
       let t : Trade = trade_of e.side (party k e.account) o n in
-      let one = trades n n o q (lowered o n ∷ q) some (omega arith) (omega arith) el ne (lower_first_part o n q part) G L mid in
+      let one = trades n n o q (lowered o n ∷ q) some (omega arith) el ne (lower_first_part o n q part) G L mid in
       record {
         after = subst (λ m. Midway R E e k mine G₀ (G ++ t ∷ []) m (lowered o n ∷ q) (settle_trade L t)) (omega arith) one.0;
         matched = (one.1, tt);

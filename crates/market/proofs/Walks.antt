@@ -1,5 +1,5 @@
 -- What a walk keeps from trade to trade, and which trades it makes. Assumes nothing.
-use Rattle.std.proofs.Common.{◌≡◌, ℕ, ◌+◌, ◌-◌, ◌<◌, ◌≤◌, false, cond, eqb, ltb, List, [], ◌∷◌, ◌++◌, ℤ, None, sym, refl, ap, ◌∙◌, inl, inr, append-nil, arith}
+use Rattle.std.proofs.Common.{◌≡◌, ℕ, ◌+◌, ◌-◌, ◌<◌, ◌≤◌, min, false, cond, eqb, ltb, List, [], ◌∷◌, ◌++◌, ℤ, None, sym, refl, ap, ◌∙◌, inl, inr, append-nil, arith}
 use Rattle.std.specs.List.{list_all}
 use Rattle.std.proofs.lemmas.List.Elements.{filter-append}
 use Rattle.std.proofs.lemmas.Bool.{and_parts, cases_lt, cond-false, cond-true, eq-eqb, le-ltb, ne_eqb, not-true}
@@ -13,7 +13,7 @@ use Rattle.market.proofs.Histories.{total-push}
 use Rattle.market.proofs.Lowering.{Shift, in_lower, kept_apart, kept_lower}
 use Rattle.market.proofs.Resting.{distinct, pass_in, rests_once}
 use Rattle.market.specs.Calls.{entry_lots, settle_trade}
-use Rattle.market.specs.Law.{Eligible, Event, First, In, Kept, Matched, Rests, counted, entry_number, held_on, lots_accepted, lots_off, lots_queued, lots_registered, numbered, resting_number, settled_on, trades_before}
+use Rattle.market.specs.Law.{Eligible, Event, First, In, Kept, Matched, Rests, counted, entry_number, held_on, lots_accepted, lots_off, lots_queued, lots_registered, numbered, resting_number, settled_on, traded_by, trades_before}
 use Rattle.market.specs.Order.{account_of, before, lots_of, lower, party, quote_of, side_of, trade_of}
 use Rattle.market.specs.Rule.{Lawful, Rule, meets_across}
 use Rattle.market.specs.declared.order.Order.{Order}
@@ -62,7 +62,7 @@ module _ (R : Rule) (lawful : Lawful R) (E : List Event) (G : List Trade) where
 -- In the middle of a walk
 
 -- an entry with n lots left, after the trades G, of which those before it were G₀: its own queue and the other one are kept and
--- do not meet, and its lots left are held beside those that rest
+-- do not meet, its lots left are held beside those that rest, and the others are those of its trades
 pub record Midway (R : Rule) (E : List Event) (e : Entry) (k : ℕ) (mine : List Order) (G₀ : List Trade) (G : List Trade) (n : ℕ) (theirs : List Order) (L : Lines) : Type 0 where
   pub mine_kept : Kept R E G e.side mine
   pub theirs_kept : Kept R E G (other e.side) theirs
@@ -71,6 +71,7 @@ pub record Midway (R : Rule) (E : List Event) (e : Entry) (k : ℕ) (mine : List
   pub held : (a : ℤ) (s : Side) → held_on (L a) s ≡ (lots_queued mine a s + lots_queued theirs a s) + counted a s e.account e.side n
   pub settled : (a : ℤ) (s : Side) → settled_on (L a) s ≡ lots_registered G a s
   pub earlier : trades_before k G ≡ G₀
+  pub left : n + traded_by G k ≡ entry_lots e
 
 module _ (R : Rule) (lawful : Lawful R) (E : List Event) (e : Entry) (k : ℕ) (mine : List Order) (G₀ : List Trade) (fresh : (j : ℕ) → k ≤ j → numbered E j ≡ None) where
   abbrev trade_with : Order → ℕ → Trade
@@ -147,12 +148,14 @@ module _ (R : Rule) (lawful : Lawful R) (E : List Event) (e : Entry) (k : ℕ) (
           held = λ a s. let x = mid.held a s in let y = queued a s in let z = (trade_settled L t hold.0 hold.1 a s).0 in let u = trade_counts a s e.side (party k e.account) o m in let w = counted_split a s e.account e.side m n hn in omega arith;
           settled = λ a s. let x = mid.settled a s in let z = (trade_settled L t hold.0 hold.1 a s).1 in let u = trade_counts a s e.side (party k e.account) o m in let y = registered a s in omega arith;
           earlier = filter-append (λ x. ltb (entry_number x) k) G (t ∷ []) ∙ ap (λ l. trades_before k G ++ l) (cond-false (ltb (entry_number t) k) _ _ (le-ltb _ _ (let i = trade_entry e.side (party k e.account) o m head_below in omega arith))) ∙ append-nil (trades_before k G) ∙ mid.earlier;
+          left = let i = mid.left in let p = total-push (λ x. cond (eqb (entry_number x) k) x.lots 0) G t in let z = cond-true (eqb (entry_number t) k) t.lots 0 (eq-eqb _ _ (trade_entry e.side (party k e.account) o m head_below)) in let l = trade_lots e.side (party k e.account) o m in omega arith;
         }
 
-    -- the trade joins the entry with the first order
-    pub head_matched : (m : ℕ) → 1 ≤ m → m ≤ lots_of o → (account_of o ≡ e.account → ⊥) → Eligible e.kind R E G e k o → Matched R E G e k (trade_with o m)
-    head_matched m some ho ne el =
+    -- the trade of the smaller lots joins the entry with the first order
+    pub head_matched : (m : ℕ) → 1 ≤ m → m ≡ min n (lots_of o) → (account_of o ≡ e.account → ⊥) → Eligible e.kind R E G e k o → Matched R E G e k (trade_with o m)
+    head_matched m some least ne el =
         let i = trade_lots e.side (party k e.account) o m in
+        let l = mid.left in
         record {
           order = o;
           first = head_first R lawful E G (other e.side) o q mid.theirs_kept;
@@ -161,5 +164,6 @@ module _ (R : Rule) (lawful : Lawful R) (E : List Event) (e : Entry) (k : ℕ) (
           eligible = el;
           recorded = ap (trade_with o) (sym i);
           earlier = head_below;
-          lots = (omega arith, omega arith);
+          lots = omega arith;
+          some = omega arith;
         }

@@ -1,11 +1,11 @@
--- What three wrong engines would answer breaks the law. Assumes nothing.
+-- What four wrong engines would answer breaks the law. Assumes nothing.
 use Rattle.std.proofs.Common.{[], ◌∷◌, pos, sym, refl, subst, arith, lit≤}
 use Rattle.std.proofs.lemmas.Bool.{true≢false}
 use Rattle.clearing.specs.declared.side.Side.TheVariants.{Buy, Sell}
 use Rattle.market.proofs.Counts.{queued_at_least}
-use Rattle.market.specs.Law.{Rests, events_of}
+use Rattle.market.specs.Law.{InSequence, Rests, events_of}
 use Rattle.market.specs.Order.{order_of}
-use Rattle.market.specs.Wrong.{HeadOnlyIsRefused, InventedLotsAreRefused, first_trade, head_only, inventing}
+use Rattle.market.specs.Wrong.{ExchangedTradesAreRefused, HeadOnlyIsRefused, InventedLotsAreRefused, first_trade, head_only, inventing}
 use Rattle.market.specs.declared.order.Order.{Order}
 
 -- the buy that was put to rest, and the sell that it meets
@@ -30,4 +30,9 @@ invented_lots_are_refused S L same tt law =
     let there = (law.queues Sell).all o (subst (λ G. Rests (events_of inventing) G o) (sym same) offered) refl in
     let x = (law.balanced (pos 101) Sell).sums in
     let y = queued_at_least (pos 101) Sell S.sells o there in
+    omega arith
+
+pub exchanged_trades_are_refused : ExchangedTradesAreRefused
+exchanged_trades_are_refused S L same tt law =
+    let falls = (subst (InSequence 0) same law.sequence).1.0 in
     omega arith

@@ -1,6 +1,6 @@
 -- The law over runs, told from the history and the register: what rests, and what holds of the queues, of each account's
--- lots and of each trade. Neither the walk nor a call is named. Assumes nothing.
-use Rattle.std.specs.Prelude.{◌≡◌, ℕ, suc, ◌+◌, ◌<◌, ◌≤◌, min, max, true, false, cond, ◌⊎◌, List, [], ◌∷◌, ◌++◌, map, length, take, ℤ, ◌-ℤ◌, Some, None, Ok, Err, filter, Option, ◌==◌, nat_lt, unsigned_abs}
+-- lots, of each trade and of their sequence. Neither the walk nor a call is named. Assumes nothing.
+use Rattle.std.specs.Prelude.{◌≡◌, ℕ, suc, ◌+◌, ◌-◌, ◌<◌, ◌≤◌, min, max, true, false, cond, ◌⊎◌, List, [], ◌∷◌, ◌++◌, map, length, take, ℤ, ◌-ℤ◌, Some, None, Ok, Err, filter, Option, ◌==◌, nat_lt, unsigned_abs}
 use Rattle.ordered.specs.Key.{eq_z}
 use Rattle.ordered.specs.Row.{in_order}
 use Rattle.clearing.specs.Centre.{Lines, Own}
@@ -190,7 +190,7 @@ off_after a s earlier (x ∷ E) = off_by a s earlier x + off_after a s (earlier 
 abbrev pub lots_off : List Event → ℤ → Side → ℕ
 lots_off E a s = off_after a s [] E
 
--- lots in the register: each trade counts for the buy's account and side and for the sell's
+-- lots in the register: those of a trade count twice, as bought by one account and as sold by the other
 abbrev pub lots_registered : List Trade → ℤ → Side → ℕ
 lots_registered G a s = total (λ t. counted a s t.buy.account Buy t.lots + counted a s t.sell.account Sell t.lots) G
 
@@ -223,7 +223,7 @@ pub record First (R : Rule) (E : List Event) (G : List Trade) (o : Order) : Type
 abbrev pub trades_before : ℕ → List Trade → List Trade
 trades_before k G = filter (λ t. nat_lt (entry_number t) k) G
 
--- the price of o is within the deviation of the price that stood first on its side when the entry numbered k came
+-- o is priced no further than the deviation from the head that its side had when the entry numbered k came
 pub record Near (R : Rule) (E : List Event) (G : List Trade) (k : ℕ) (o : Order) : Type 0 where
   pub head : Order
   pub stood_first : First R E (trades_before k G) head
@@ -235,7 +235,12 @@ abbrev pub Eligible : Kind → Rule → List Event → List Trade → Entry → 
 Eligible Limited R E G e k o = meets_across R e.side (quoted e.side e.price k) (quote_of o) ≡ true
 Eligible Market R E G e k o = Near R E G k o
 
--- the trade t joins the entry e, numbered k, with the first order of the other side, after the events E and the trades G
+-- lots of the trades that the entry numbered k has made
+abbrev pub traded_by : List Trade → ℕ → ℕ
+traded_by G k = total (λ t. cond (entry_number t == k) t.lots 0) G
+
+-- the trade t joins the entry e, numbered k, with the first order of the other side, after the events E and the trades G, for
+-- the smaller of the lots that the two have left
 pub record Matched (R : Rule) (E : List Event) (G : List Trade) (e : Entry) (k : ℕ) (t : Trade) : Type 0 where
   pub order : Order
   pub first : First R E G order
@@ -244,7 +249,8 @@ pub record Matched (R : Rule) (E : List Event) (G : List Trade) (e : Entry) (k :
   pub eligible : Eligible e.kind R E G e k order
   pub recorded : t ≡ trade_of e.side (party k e.account) order t.lots
   pub earlier : order.number < k
-  pub lots : (1 ≤ t.lots) × (t.lots ≤ lots_of order)
+  pub lots : t.lots ≡ min (unsigned_abs e.lots - traded_by G k) (lots_of order)
+  pub some : 1 ≤ t.lots
 
 -- the trade t, made after the trades G, joined an accepted entry of the history
 pub record Joined (R : Rule) (E : List Event) (G : List Trade) (t : Trade) : Type 0 where
@@ -254,6 +260,14 @@ pub record Joined (R : Rule) (E : List Event) (G : List Trade) (t : Trade) : Typ
   pub later : List Event
   pub came : E ≡ earlier ++ entered entry answer ∷ later
   pub matched : Matched R earlier G entry answer.number t
+
+-- The sequence of the register
+
+-- trades stand as they were made: the number of the entry never falls from a trade to the next, from n on. Entries are
+-- numbered as they come, and within the trades of one entry `priority` settles which came first
+abbrev pub InSequence : ℕ → List Trade → Type 0
+InSequence n [] = Unit {0}
+InSequence n (t ∷ G) = (n ≤ entry_number t) × InSequence (entry_number t) G
 
 -- The law
 
@@ -271,6 +285,7 @@ pub record Keeps (R : Rule) (E : List Event) (S : State) (L : Lines) : Type 0 wh
   pub uncrossed : (b s : Order) → In b S.buys → In s S.sells → R.meets (quote_of b) (quote_of s) ≡ false
   pub balanced : (a : ℤ) (s : Side) → Balanced E S L a s
   pub priority : (G : List Trade) (t : Trade) (later : List Trade) → S.register ≡ G ++ t ∷ later → Joined R E G t
+  pub sequence : InSequence 0 S.register
 
 -- what every day keeps
 abbrev pub LawfulDay : Rule → Day → Type 0
@@ -285,6 +300,13 @@ RunKeepsTheLaw R C L calls =
 -- for every lawful queue rule, every centre's own rule, lines with nothing held or settled, and every list of calls
 abbrev pub EveryRunKeepsTheLaw : Type 0
 EveryRunKeepsTheLaw = (R : Rule) → Lawful R → (C : Own) (L : Lines) (calls : List Call) → RunKeepsTheLaw R C L calls
+
+-- how far the law settles the register: two markets that keep it over one history, and in which each entry traded as many
+-- lots, have the same trades in the same sequence
+abbrev pub LawPinsTheRegister : Type 0
+LawPinsTheRegister =
+    (R : Rule) → Lawful R → (E : List Event) (S T : State) (L M : Lines) → Keeps R E S L → Keeps R E T M →
+    ((k : ℕ) → traded_by S.register k ≡ traded_by T.register k) → S.register ≡ T.register
 
 -- A market as it is after some calls
 

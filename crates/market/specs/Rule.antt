@@ -5,7 +5,7 @@ use Rattle.clearing.specs.declared.side.Side.{Side}
 use Rattle.clearing.specs.declared.side.Side.TheVariants.{Buy, Sell}
 use Rattle.market.specs.declared.rule.Quote.{Quote}
 
--- whether one order stands before another of its side, and whether a buy meets a sell
+-- stands: of two orders of a side, does the one given first go ahead of the other; meets: can a buy and a sell trade
 pub record Rule : Type 0 where
   pub stands : Quote → Quote → Bool
   pub meets : Quote → Quote → Bool

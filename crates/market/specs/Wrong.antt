@@ -1,4 +1,4 @@
--- Three wrong engines, by what they would answer, and that the law refuses them. Assumes nothing.
+-- Four wrong engines, by what they would answer, and that the law refuses them. Assumes nothing.
 use Rattle.std.specs.Prelude.{◌≡◌, ℕ, List, [], ◌∷◌, ℤ, pos, Ok}
 use Rattle.clearing.specs.Centre.{Lines}
 use Rattle.clearing.specs.declared.side.Side.{Side}
@@ -7,7 +7,7 @@ use Rattle.dealing.specs.declared.call.Call.{Call}
 use Rattle.dealing.specs.declared.call.Call.TheVariants.{Open, Enter}
 use Rattle.dealing.specs.declared.call.Kind.TheVariants.{Limited}
 use Rattle.dealing.specs.declared.call.Rest.TheVariants.{Queue}
-use Rattle.dealing.specs.declared.outcome.Outcome.TheVariants.{Opened, PartResting, Resting}
+use Rattle.dealing.specs.declared.outcome.Outcome.TheVariants.{Filled, Opened, PartResting, Resting}
 use Rattle.market.specs.Calls.{figures_of}
 use Rattle.market.specs.Law.{Keeps, events_of, held_on}
 use Rattle.market.specs.Order.{party}
@@ -56,3 +56,23 @@ inventing = opening ∷ step (enters Sell (pos 101) (pos 7000) 10) (Ok (Resting 
 
 abbrev pub InventedLotsAreRefused : Type 0
 InventedLotsAreRefused = Breaks inventing [] (λ _. Unit {0})
+
+-- An engine that breaks the sequence of the register, and nothing else: of 20 lots that rest, entry 2 buys 10 and then entry 3
+-- the other 10, and the trade of entry 3 stands in front of that of entry 2
+abbrev pub exchanging : List Step
+exchanging =
+    opening
+    ∷ step (enters Sell (pos 101) (pos 7000) 20) (Ok (Resting (figures_of 1 0 20 0)))
+    ∷ step (enters Buy (pos 102) (pos 7000) 10) (Ok (Filled (figures_of 2 10 0 0)))
+    ∷ step (enters Buy (pos 103) (pos 7000) 10) (Ok (Filled (figures_of 3 10 0 0)))
+    ∷ []
+
+-- 10 lots of the resting sell, bought by the account a with the entry numbered k
+abbrev pub bought_by : ℕ → ℤ → Trade
+bought_by k a = record { buy = party k a; sell = party 1 (pos 101); price = pos 7000; lots = 10 }
+
+abbrev pub exchanged : List Trade
+exchanged = bought_by 3 (pos 103) ∷ bought_by 2 (pos 102) ∷ []
+
+abbrev pub ExchangedTradesAreRefused : Type 0
+ExchangedTradesAreRefused = Breaks exchanging exchanged (λ _. Unit {0})

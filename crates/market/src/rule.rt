@@ -16,7 +16,7 @@ pub struct Quote {
 
 // The implementor is the rule, so that a rule with settings of its own can be one.
 pub trait QueueRule {
-    // Whether one order stands before another of its side, and whether a buy and a sell meet.
+    // The rule's two tests, as definitions: what goes ahead of what in a queue, and which buys and sells can trade.
     ghost rule: { Self → Rule };
 
     // Whether a stands before b, of the same side.
