@@ -2,14 +2,20 @@
 use Rattle.std.proofs.Common.{◌≡◌, true, ℤ, sym, refl, ap, ◌∙◌, subst, w64, SFits, rules}
 use Rattle.std.proofs.lemmas.Int.{to_z-of_z}
 use Rattle.std.proofs.lemmas.Bool.{false≢true, not-true}
+use Rattle.clearing.specs.Centre.{Lines}
+use Rattle.dealing.specs.Replies.{Reply}
 use Rattle.dealing.specs.declared.call.Call.{Call}
 use Rattle.dealing.specs.declared.call.Call.TheVariants.{Open, Enter, Withdraw, Reduce, Suspend, Resume}
 use Rattle.dealing.specs.declared.call.Entry.{Entry}
+use Rattle.market.proofs.Replies.{book_fits}
 use Rattle.market.specs.BookState.{state_of}
-use Rattle.market.specs.Calls.{answer, enter, reduce, withdraw}
+use Rattle.market.specs.Calls.{answer, done, enter, reduce, withdraw}
+use Rattle.market.specs.Fits.{IsMarketReply}
 use Rattle.market.specs.Sitting.{goes_on}
 use Rattle.market.specs.State.{State, is_trading, is_unopened}
+use Rattle.market.specs.declared.book.Book.{Book}
 use Rattle.market.specs.declared.period.Period.{Period}
+use Rattle.market.proofs.book.Book.call.Given as given
 use Rattle.market.proofs.book.Book.call.Goals as goal
 
 -- no other call goes on to the orders
@@ -92,3 +98,24 @@ returns-in-Reduce-clause-answered g c =
     let k = sym (to_z-of_z w64 c.in-Reduce.number fk) in
     let n = sym (to_z-of_z w64 c.in-Reduce.lots fn) in
     ap (answer R C (state_of b) L) c.in-Reduce.is ∙ (λ i. reduce (same i) L (a i) (k i) (n i)) ∙ c.reduce.ensures.answered
+
+-- what is answered as defined is a reply that a market can give
+bounded : (g : given.Over) (b : Book g.row.R.Denot) (centre : g.row.C.Denot) (c : Call) (S' : State) (L' : Lines) (r : Reply) → answer (g.R.QueueRule.rule b.rule.rule) (g.C.Centre.own centre) (state_of b) (g.C.Centre.lines centre) c ≡ done S' L' r → IsMarketReply r
+bounded g b centre =
+    book_fits (g.R.QueueRule.rule b.rule.rule) (g.C.Centre.own centre) (g.C.Centre.lines centre) (g.C.Centre.depth centre) (g.met.C.Centre.shallow centre) (g.met.C.Centre.denies centre) b
+
+pub returns-in-Some-clause-bounded : goal.returns-in-Some-clause-bounded
+returns-in-Some-clause-bounded g c =
+    bounded g c.args.self.now c.args.centre.now c.args.call _ _ _ (returns-in-Some-clause-answered g c)
+
+pub returns-in-Enter-clause-bounded : goal.returns-in-Enter-clause-bounded
+returns-in-Enter-clause-bounded g c =
+    bounded g c.args.self.now c.args.centre.now c.args.call _ _ _ (returns-in-Enter-clause-answered g c)
+
+pub returns-in-Withdraw-clause-bounded : goal.returns-in-Withdraw-clause-bounded
+returns-in-Withdraw-clause-bounded g c =
+    bounded g c.args.self.now c.args.centre.now c.args.call _ _ _ (returns-in-Withdraw-clause-answered g c)
+
+pub returns-in-Reduce-clause-bounded : goal.returns-in-Reduce-clause-bounded
+returns-in-Reduce-clause-bounded g c =
+    bounded g c.args.self.now c.args.centre.now c.args.call _ _ _ (returns-in-Reduce-clause-answered g c)
