@@ -1,24 +1,28 @@
 -- What is known of an entry that is not refused, and what carrying it out comes to. Assumes nothing.
 use Rattle.std.proofs.Common.{◌≡◌, ℕ, suc, ◌+◌, ◌-◌, ◌<◌, ◌≤◌, Bool, true, false, cond, eqb, leb, List, [], ◌∷◌, ◌++◌, length, ℤ, Some, None, Ok, sym, ap, ◌∙◌, subst, ap₂, inl, inr, arith}
+use Rattle.std.specs.List.{list_all}
 use Rattle.std.specs.Option.{option_map}
-use Rattle.std.proofs.lemmas.Bool.{and_from, both_ways, cases_Bool, cond_both, cond-false, cond-true, leb-false, ltb-false, not-false, or_parts}
+use Rattle.std.proofs.lemmas.Bool.{and_from, both_ways, cases_Bool, cond_both, cond-false, cond-true, le-leb, leb-false, ltb-false, not-false, or_parts}
 use Rattle.ordered.specs.Key.{eq_z}
 use Rattle.ordered.proofs.Keys.{eq_z_refl}
 use Rattle.clearing.specs.Centre.{Lines, Own, adjusted, holds, verdict}
-use Rattle.clearing.specs.Line.{hold, release}
+use Rattle.clearing.specs.Line.{hold, lots_max, release}
 use Rattle.clearing.specs.Side.{other}
 use Rattle.clearing.specs.declared.side.Side.{Side}
 use Rattle.clearing.specs.declared.side.Side.TheVariants.{Buy, Sell}
 use Rattle.dealing.specs.declared.call.Entry.{Entry}
 use Rattle.dealing.specs.declared.outcome.Outcome.{Outcome}
+use Rattle.market.proofs.Fitting.{fits_lowered, lots_within}
 use Rattle.market.proofs.InStep.{reserved_holds, reserved_still_holds}
 use Rattle.market.proofs.Runs.{has_line, neither, no_denial, none_fails}
-use Rattle.market.proofs.Sides.{all_on_joined, all_on_walk}
+use Rattle.market.proofs.Passing.{all_joined, all_walk}
+use Rattle.market.proofs.Sides.{is_side_same}
 use Rattle.market.proofs.Walking.{walk_induction}
 use Rattle.market.specs.BookState.{Judged, entry_outcome, state_of}
-use Rattle.market.specs.Calls.{done, entered, entry_checks, entry_lots, entry_refusal, first_of, out_of_step, outcome_of, rest_joins, settle_trades, trades_out_of_step, walk_of}
+use Rattle.market.specs.Calls.{done, entered, entry_checks, entry_lots, entry_refusal, first_of, lots_fit, out_of_step, outcome_of, rest_joins, settle_trades, trades_out_of_step, walk_of}
 use Rattle.market.specs.Carry.{CarriedEntry, EnteredBook, IsInStep, Planned}
-use Rattle.market.specs.Order.{all_on, joined, lots_resting, order_of, party_on}
+use Rattle.market.specs.Fits.{number_max, order_fits, orders_fit}
+use Rattle.market.specs.Order.{all_on, is_on, is_side, joined, lots_resting, lowered, order_of, party_on}
 use Rattle.market.specs.Rule.{Rule}
 use Rattle.market.specs.State.{State, queue_of, with_book}
 use Rattle.market.specs.Walk.{Walked, eligible_for, walk}
@@ -29,6 +33,7 @@ use Rattle.market.specs.declared.trade.Trade.{Trade}
 
 -- an entry that is not refused
 pub record AcceptedEntry (C : Own) (S : State) (L : Lines) (e : Entry) (w : Walked) : Type 0 where
+  pub lots : lots_fit e.lots ≡ true
   pub number : S.last < 999999
   pub register : length S.register + length w.trades ≤ 512
   pub queue : rest_joins e w.ending ≡ true → length (queue_of e.side S) < 64
@@ -42,6 +47,7 @@ accepted C S L e w none =
     let five = checks.1.1.1.1 in
     let nine = five.1.1.1.1 in
     record {
+      lots = not-false (lots_fit e.lots) checks.1.0;
       number = leb-false 999999 S.last five.0;
       register = ltb-false 512 _ five.1.1.1.0;
       queue = λ j. elim (cases_Bool (leb 64 (length (queue_of e.side S)))) [
@@ -132,6 +138,11 @@ pub book_on : {X : Type 0} (b : Book X) (s : Side) → all_on s (queue_of s (sta
 book_on b Buy = b.bought
 book_on b Sell = b.sold
 
+-- and orders that fit
+book_fits : {X : Type 0} (b : Book X) (s : Side) → orders_fit (queue_of s (state_of b)) ≡ true
+book_fits b Buy = b.buys_fit
+book_fits b Sell = b.sells_fit
+
 module _ {X : Type 0} (R : Rule) (C : Own) (L : Lines) (b : Book X) (e : Entry) (p : Plan) (judged : Judged R C (state_of b) L e (Ok p)) (s : Side) (its : e.side ≡ s) where
   abbrev S : State
   S = state_of b
@@ -163,6 +174,10 @@ module _ {X : Type 0} (R : Rule) (C : Own) (L : Lines) (b : Book X) (e : Entry) 
         λ j. subst (λ z. length (queue_of z S) < 64) its (known.queue (subst (λ x. rest_joins e x ≡ true) plan.ending j)),
       )
 
+  -- its number can be given
+  pub number_kept : S.last + 1 ≤ number_max
+  number_kept = let low = known.number in omega arith
+
   -- no more lots are left than it had
   pub plan_left : p.left ≤ entry_lots e
   plan_left = let h = left_within el e (suc S.last) (entry_lots e) (queue_of (other e.side) S) in let i = judged.1.left in omega arith
@@ -171,12 +186,26 @@ module _ {X : Type 0} (R : Rule) (C : Own) (L : Lines) (b : Book X) (e : Entry) 
     parts : CarriedEntry R e (S.last + 1) p.ending (walk el e (S.last + 1) (entry_lots e) (queue_of (other s) S)) L (queue_of s S) S.register L' mine' theirs' G'
     parts = carried el (judged.1.trades ∙ sym (ap (λ (x : Walked). length x.trades) same_walk))
 
-    -- each queue still holds orders of its side
-    pub sides_kept : (all_on s mine' ≡ true) × (all_on (other s) theirs' ≡ true)
-    sides_kept = (
-      subst (λ q. all_on s q ≡ true) (sym parts.own_queue) (cond_both (rest_joins e p.ending) _ _ (λ q. all_on s q ≡ true) (λ _. all_on_joined R s _ (queue_of s S) its (book_on b s)) (λ _. book_on b s)),
-      subst (λ q. all_on (other s) q ≡ true) (sym parts.other_queue) (all_on_walk el e (S.last + 1) (other s) (entry_lots e) (queue_of (other s) S) (book_on b (other s))),
-    )
+    -- what all orders of a queue pass, they still pass: in the entry's own queue if the order of its rest does
+    own_passes : (t : Order → Bool) → t (order_of e.account e.side (S.last + 1) e.price (walk el e (S.last + 1) (entry_lots e) (queue_of (other s) S)).left) ≡ true → list_all t (queue_of s S) ≡ true → list_all t mine' ≡ true
+    own_passes t rest all =
+        subst (λ q. list_all t q ≡ true) (sym parts.own_queue) (cond_both (rest_joins e p.ending) _ _ (λ q. list_all t q ≡ true) (λ _. all_joined t R _ (queue_of s S) rest all) (λ _. all))
+
+    other_passes : (t : Order → Bool) → ((o : Order) (n : ℕ) → t o ≡ true → t (lowered o n) ≡ true) → list_all t (queue_of (other s) S) ≡ true → list_all t theirs' ≡ true
+    other_passes t stays all =
+        subst (λ q. list_all t q ≡ true) (sym parts.other_queue) (all_walk t stays el e (S.last + 1) (entry_lots e) (queue_of (other s) S) all)
+
+    -- each queue still holds orders of its side, and orders that fit
+    pub queues_kept : (all_on s mine' ≡ true) × (all_on (other s) theirs' ≡ true) × (orders_fit mine' ≡ true) × (orders_fit theirs' ≡ true)
+    queues_kept =
+        let left = left_within el e (S.last + 1) (entry_lots e) (queue_of (other s) S) in
+        let few = lots_within e.lots known.lots in
+        let low = known.number in (
+          own_passes (is_on s) (ap (is_side s) its ∙ is_side_same s) (book_on b s),
+          other_passes (is_on (other s)) (λ o n on. on) (book_on b (other s)),
+          own_passes order_fits (and_from _ _ (le-leb (S.last + 1) number_max (omega arith)) (le-leb _ lots_max (omega arith))) (book_fits b s),
+          other_passes order_fits fits_lowered (book_fits b (other s)),
+        )
 
     -- the entry was carried out as defined
     pub carried_as : (o : Outcome) → o ≡ entry_outcome e (S.last + 1) (entry_lots e) p.ending p.left → entered R S L e w ≡ done (with_book s mine' theirs' (S.last + 1) G' S) L' (Ok o)

@@ -14,10 +14,11 @@ use Rattle.clearing.specs.declared.side.Side.TheVariants.{Buy, Sell}
 use Rattle.dealing.specs.declared.call.Entry.{Entry}
 use Rattle.market.proofs.InStep.{entry_settled_first, holds_fewer, still_in_step, still_reserved}
 use Rattle.market.proofs.PlanTables.{walk_step, walk_still}
-use Rattle.market.proofs.Sides.{all_on_left, is_side_true}
+use Rattle.market.proofs.Passing.{all_left}
+use Rattle.market.proofs.Sides.{is_side_true}
 use Rattle.market.specs.Calls.{settle_trades}
 use Rattle.market.specs.Carry.{CanTrade, Carried, CarriedOut, IsInStep, Least, Planned, Still, TradedFirst}
-use Rattle.market.specs.Order.{account_of, all_on, is_side, left_of, lots_of, lots_resting, party, party_on, side_of, trade_of}
+use Rattle.market.specs.Order.{account_of, all_on, is_on, is_side, left_of, lots_of, lots_resting, party, party_on, side_of, trade_of}
 use Rattle.market.specs.Walk.{Walked, after_trade, walk}
 use Rattle.market.specs.declared.order.Order.{Order}
 use Rattle.market.specs.declared.trade.Party.{Party}
@@ -108,7 +109,7 @@ module _ (e : Entry) (k : ℕ) where
           eligible = el;
           count = let c = plan.count in let d = ap (λ (x : Walked). length x.trades) same in omega arith;
           in_step = subst (λ (x : Walked). IsInStep L' (other s) q' x.trades) (sym same) moved;
-          one_sided = subst (λ l. all_on (other s) l ≡ true) (sym after.0) (all_on_left (other s) o m next.rest on_head);
+          one_sided = subst (λ l. all_on (other s) l ≡ true) (sym after.0) (all_left (is_on (other s)) (λ x n on. on) o m next.rest on_head);
           reserved = subst (λ (M : Lines). holds (M e.account) s (n - m) ≡ true) lines (still_reserved L s e.account o m n few.0 next.apart plan.reserved);
         }
 

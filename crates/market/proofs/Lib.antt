@@ -3,6 +3,7 @@ pub mod Books
 pub mod Carried
 pub mod Counts
 pub mod Entries
+pub mod Fitting
 pub mod Histories
 pub mod InStep
 pub mod Joining
@@ -10,9 +11,11 @@ pub mod Lessening
 pub mod Lowering
 pub mod Namings
 pub mod Pinned
+pub mod Passing
 pub mod PlanTables
 pub mod QueueTables
 pub mod Refusals
+pub mod Replies
 pub mod Resting
 pub mod Runs
 pub mod Sides

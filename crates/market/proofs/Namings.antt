@@ -1,6 +1,6 @@
 -- The order that a number names, found in one of the two queues, and lots taken off it. Assumes nothing.
 use Rattle.std.proofs.Common.{◌≡◌, ℕ, zero, suc, ◌-◌, ◌<◌, ◌≤◌, Bool, true, false, cond, List, [], ◌∷◌, ◌++◌, length, get_or, ℤ, pos, nat_abs, Some, None, Ok, Err, Option, sym, refl, ap, ◌∙◌, subst, arith, w64, SFits, to_z, of_z}
-use Rattle.std.proofs.lemmas.Bool.{and_from, and_parts, cond-true, not-false}
+use Rattle.std.proofs.lemmas.Bool.{cond-true, not-false}
 use Rattle.ordered.specs.Key.{eq_z}
 use Rattle.ordered.specs.Row.{Found, Lacks, at_key}
 use Rattle.ordered.proofs.Keys.{eq_z_refl}
@@ -19,22 +19,14 @@ use Rattle.dealing.specs.declared.refusal.Refusal.{Refusal}
 use Rattle.dealing.specs.declared.refusal.Refusal.TheVariants.{WrongPeriod}
 use Rattle.market.proofs.InStep.{holds_fewer}
 use Rattle.market.proofs.QueueTables.{lower_found}
-use Rattle.market.proofs.Sides.{all_on_left, is_side_true}
+use Rattle.market.proofs.Sides.{is_side_true}
 use Rattle.market.specs.Calls.{Done, check, done, figures_of, first_of, or_else, out_of_step, reduce, reduce_checks, reduce_order, off_the_book, unless, withdraw, withdraw_checks, withdraw_order}
 use Rattle.market.specs.Naming.{Named, Placed, TakenOffBook, order_at}
-use Rattle.market.specs.Order.{account_of, all_on, is_side, lots_of, lots_resting, lower, side_of}
+use Rattle.market.specs.Order.{account_of, all_on, is_on, lots_of, lots_resting, lower, side_of}
 use Rattle.market.specs.QueueTable.{lowered_at}
 use Rattle.market.specs.State.{State, is_unopened, order_numbered, queue_of, with_book}
 use Rattle.market.specs.declared.order.Order.{Order}
 use Rattle.market.specs.declared.taking_off.Place.{Place}
-
--- an order lowered in its place leaves all orders on one side
-pub all_on_lowered_at : (s : Side) (i n : ℕ) (q : List Order) → all_on s q ≡ true → all_on s (lowered_at i n q) ≡ true
-all_on_lowered_at s i n [] all = refl
-all_on_lowered_at s zero n (o ∷ q) all = all_on_left s o n q all
-all_on_lowered_at s (suc i) n (o ∷ q) all =
-    let both = and_parts (is_side s (side_of o)) _ all in
-    and_from _ _ both.0 (all_on_lowered_at s i n q both.1)
 
 -- a key is looked for in the first list, and then in the second
 at_key-append : (p q : List Order) (k : ℤ) → at_key (λ o. pos o.number) (p ++ q) k ≡ or_else (at_key (λ o. pos o.number) p k) (at_key (λ o. pos o.number) q k)
@@ -52,7 +44,7 @@ placed S k p all found =
     let q = queue_of p.side S in
     record {
       found = λ d. subst (λ z. Found (λ (o : Order). pos o.number) q z (Some p.at)) (sym (found.1 d)) found;
-      sided = λ d. is_side_true p.side _ (all_pass_at (λ o. is_side p.side (side_of o)) q p.at d found.0 all);
+      sided = λ d. is_side_true p.side _ (all_pass_at (is_on p.side) q p.at d found.0 all);
     }
 
 module _ (S : State) (k : ℤ) where

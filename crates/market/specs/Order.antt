@@ -22,15 +22,20 @@ side_of o = o.resting.side
 abbrev pub lots_of : Order → ℕ
 lots_of o = o.resting.lots
 
--- all orders are of one side
+-- a side is this one
 abbrev pub is_side : Side → Side → Bool
 is_side Buy Buy = true
 is_side Buy Sell = false
 is_side Sell Buy = false
 is_side Sell Sell = true
 
+-- an order is of a side
+abbrev pub is_on : Side → Order → Bool
+is_on s o = is_side s (side_of o)
+
+-- all orders are of one side
 abbrev pub all_on : Side → List Order → Bool
-all_on s q = list_all (λ o. is_side s (side_of o)) q
+all_on s q = list_all (is_on s) q
 
 -- the order numbered k, of an account and side, at the price p, with n lots
 abbrev pub order_of : ℤ → Side → ℕ → ℤ → ℕ → Order

@@ -30,8 +30,7 @@ loop-i-preserved g c =
       way_on _ _ _ _ _ _ _ _ _ _ _ _ _ c.loop-i.invariant.0 c.loop-i-test.true c.first_lots-n.result (g.C.Centre.lines last.centre) last.theirs.orders last.register c.trade_first-rest.result c.first_lots-n.ensures
           (subst (λ (p : Party). TradedFirst c.args.numbered.now.entry.side p c.first_lots-n.result (g.C.Centre.lines c.loop-i.centre) c.loop-i.theirs.orders c.loop-i.register (g.C.Centre.lines last.centre) last.theirs.orders last.register) me t.traded)
           (t.grant ∙ ap (λ (p : Party). grant_of p.account c.args.numbered.now.entry.side (c.loop-i.rest.lots - c.first_lots-n.result)) me),
-      t.settings ∙ c.loop-i.invariant.1,
-      t.layers ∙ c.loop-i.invariant.2,
+      g.met.C.Centre.same_on _ _ _ c.loop-i.invariant.1 t.settings,
     )
 
 pub returns-clause-carried : goal.returns-clause-carried

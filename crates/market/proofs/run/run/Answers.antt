@@ -38,18 +38,17 @@ loop-call-preserved g c =
     let calls = c.args.calls.now in
     let i = c.loop-call.call-index in
     let it = get_or calls i (Open (pos 0) (pos 0) (pos 0)) in
-    let answered = ap₂ (λ R D. answer R D (state_of now'.book) (g.C.Centre.lines now'.centre) it) (sym (ap by inv.1)) (sym inv.2) ∙ c.call.ensures.answered in
+    let answered = ap₂ (λ R D. answer R D (state_of now'.book) (g.C.Centre.lines now'.centre) it) (sym (ap by inv.1)) (g.met.C.Centre.same_own m.centre now'.centre inv.2) ∙ c.call.ensures.answered in
     let on = run_on (by m.book.rule) C L (take i calls) it (state_of now'.book) (g.C.Centre.lines now'.centre) c.loop-call.replies.items (state_of next.book) (g.C.Centre.lines next.centre) c.call.result inv.0 answered in
     let pushed = c.push_reserved.ensures in
     let more = take_more calls i (Open (pos 0) (pos 0) (pos 0)) c.loop-call-test.true in
-    let size = inv.4 in
-    let room = inv.5 in
+    let size = inv.3 in
+    let room = inv.4 in
     let len = pushed.len in
     let cap' = pushed.capacity in (
       subst₂ (λ cs rs. IsRun (by m.book.rule) C L cs (state_of next.book) (g.C.Centre.lines next.centre) rs) (sym more) (sym pushed.items) on,
       c.call.ensures.rule ∙ inv.1,
-      c.call.ensures.settings ∙ inv.2,
-      c.call.ensures.layers ∙ inv.3,
+      g.met.C.Centre.same_on m.centre now'.centre next.centre inv.2 c.call.ensures.settings,
       omega arith,
       omega arith,
     )

@@ -1,7 +1,7 @@
 -- The entry's own queue is that of its side, and the walk goes down the other.
 use Rattle.std.proofs.Common.{Ok, sym, refl, ap, ◌∙◌, ap₂}
 use Rattle.clearing.specs.declared.side.Side.TheVariants.{Buy, Sell}
-use Rattle.market.proofs.Accepting.{carried_as, carry_needs, plan_left, sides_kept}
+use Rattle.market.proofs.Accepting.{carried_as, carry_needs, number_kept, plan_left, queues_kept}
 use Rattle.market.specs.BookState.{state_of}
 use Rattle.market.specs.Calls.{done}
 use Rattle.market.proofs.book.Book.carry_out.Goals as goal
@@ -19,8 +19,8 @@ invariant_of-self g c =
     let b = c.args.self.now in
     let R = g.R.QueueRule.rule b.rule.rule in
     let last = c.carry.new in
-    let kept = sides_kept R (g.C.Centre.own c.args.centre.now) (g.C.Centre.lines c.args.centre.now) b c.args.entry.now c.args.plan c.requires Buy c.in-Buy.is (g.C.Centre.lines last.centre) last.mine.orders last.theirs.orders last.register c.carry.ensures.entered in
-    record { bought = kept.0; sold = kept.1 }
+    let kept = queues_kept R (g.C.Centre.own c.args.centre.now) (g.C.Centre.lines c.args.centre.now) b c.args.entry.now c.args.plan c.requires Buy c.in-Buy.is (g.C.Centre.lines last.centre) last.mine.orders last.theirs.orders last.register c.carry.ensures.entered in
+    record { bought = kept.0; sold = kept.1; given = number_kept R (g.C.Centre.own c.args.centre.now) (g.C.Centre.lines c.args.centre.now) b c.args.entry.now c.args.plan c.requires Buy c.in-Buy.is; buys_fit = kept.2; sells_fit = kept.3 }
 
 pub carry-requires-in-Sell : goal.carry-requires-in-Sell
 carry-requires-in-Sell g c =
@@ -34,8 +34,8 @@ invariant_of-self-in-Sell g c =
     let b = c.args.self.now in
     let R = g.R.QueueRule.rule b.rule.rule in
     let last = c.carry-in-Sell.new in
-    let kept = sides_kept R (g.C.Centre.own c.args.centre.now) (g.C.Centre.lines c.args.centre.now) b c.args.entry.now c.args.plan c.requires Sell c.in-Sell.is (g.C.Centre.lines last.centre) last.mine.orders last.theirs.orders last.register c.carry-in-Sell.ensures.entered in
-    record { bought = kept.1; sold = kept.0 }
+    let kept = queues_kept R (g.C.Centre.own c.args.centre.now) (g.C.Centre.lines c.args.centre.now) b c.args.entry.now c.args.plan c.requires Sell c.in-Sell.is (g.C.Centre.lines last.centre) last.mine.orders last.theirs.orders last.register c.carry-in-Sell.ensures.entered in
+    record { bought = kept.1; sold = kept.0; given = number_kept R (g.C.Centre.own c.args.centre.now) (g.C.Centre.lines c.args.centre.now) b c.args.entry.now c.args.plan c.requires Sell c.in-Sell.is; buys_fit = kept.3; sells_fit = kept.2 }
 
 pub outcome-requires : goal.outcome-requires
 outcome-requires g c =
