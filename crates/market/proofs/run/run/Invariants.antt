@@ -1,5 +1,5 @@
--- The calls so far are a run of their own, with one reply for each.
-use Rattle.std.proofs.Common.{◌≡◌, ◌≤◌, length, take}
+-- The calls so far are a run of their own, with one reply for each, and there is room for as many replies as calls.
+use Rattle.std.proofs.Common.{◌≡◌, length, take}
 use Rattle.market.specs.BookState.{state_of}
 use Rattle.market.specs.Law.{IsRun}
 use Rattle.market.proofs.run.run.Given as goal
@@ -12,4 +12,4 @@ invariant-loop-call g l =
     × (g.C.Centre.own l.market.centre ≡ g.C.Centre.own m.centre)
     × (g.C.Centre.depth l.market.centre ≡ g.C.Centre.depth m.centre)
     × (l.replies.len ≡ l.call-index)
-    × (length l.calls ≤ l.replies.cap)
+    × (l.replies.cap ≡ length l.calls)
