@@ -1,6 +1,6 @@
 // An entry that was judged is carried out: its lots are reserved, its trades made, and its rest joins its queue or is given
 // back.
-ghost use Rattle.std.specs.Prelude.{◌≡◌, ◌+◌, ◌<◌, ◌≤◌, true, false, length, if◌then◌else◌, None, Ok as Accepted};
+ghost use Rattle.std.specs.Prelude.{◌≡◌, ◌+◌, ◌<◌, ◌≤◌, true, false, length, if◌then◌else◌, None, OnErr, Ok as Accepted};
 ghost use Rattle.clearing.specs.Centre.{adjusted, holds, verdict};
 ghost use Rattle.clearing.specs.Line.{hold, release};
 ghost use Rattle.market.specs.BookState.{Judged, entry_outcome, state_of};
@@ -146,10 +146,11 @@ impl<R: QueueRule> Book<R> {
         outcome(&numbered, plan)
     }
 
-    // Enters an order: it is judged, and then carried out.
+    // Enters an order: it is judged, and then carried out. A refused one changes nothing.
     pub(crate) fn enter<C: Centre>(&mut self, centre: &mut C, entry: Entry) -> Reply
         requires { is_trading self.old.sitting.period ≡ true }
         ensures answered { enter-result (R.QueueRule.rule self.old.rule.rule) (C.Centre.own centre.old) (state_of self.old) (C.Centre.lines centre.old) entry ≡ done (state_of self.new) (C.Centre.lines centre.new) result }
+        ensures refused { OnErr result ((self.new ≡ self.old) × (centre.new ≡ centre.old)) }
         ensures rule { self.new.rule ≡ self.old.rule }
         ensures settings { C.Centre.own centre.new ≡ C.Centre.own centre.old }
         ensures layers { C.Centre.depth centre.new ≡ C.Centre.depth centre.old }

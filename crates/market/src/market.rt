@@ -4,7 +4,7 @@ ghost use Rattle.market.specs.Calls.{answer, done};
 ghost use Rattle.market.specs.Fits.{IsMarketReply};
 ghost use Rattle.market.specs.Law.{CallKeepsTheLaw};
 ghost use Rattle.market.specs.State.{new_market, queue_of};
-ghost use Rattle.std.specs.Prelude.{◌≡◌, ◌≤◌, length, IfOk};
+ghost use Rattle.std.specs.Prelude.{◌≡◌, ◌≤◌, length, IfOk, OnErr};
 
 use crate::book::Book;
 use crate::order::Order;
@@ -29,10 +29,11 @@ pub struct Market<R, C> {
 }
 
 impl<R: QueueRule> Book<R> {
-    // Any of the six calls, over a centre. The period decides first, and then the orders.
+    // Any of the six calls, over a centre. The period decides first, and then the orders. A refused call changes nothing.
     pub(crate) fn call<C: Centre>(&mut self, centre: &mut C, call: Call) -> Reply
         ensures answered { answer (R.QueueRule.rule self.old.rule.rule) (C.Centre.own centre.old) (state_of self.old) (C.Centre.lines centre.old) call ≡ done (state_of self.new) (C.Centre.lines centre.new) result }
         ensures bounded { IsMarketReply result }
+        ensures refused { OnErr result ((self.new ≡ self.old) × (centre.new ≡ centre.old)) }
         ensures rule { self.new.rule ≡ self.old.rule }
         ensures settings { C.Centre.own centre.new ≡ C.Centre.own centre.old }
         ensures layers { C.Centre.depth centre.new ≡ C.Centre.depth centre.old }
@@ -80,15 +81,17 @@ impl<R: QueueRule + Drop> Book<R> {
 }
 
 impl<R: QueueRule, C: Centre> Market<R, C> {
-    /// Any of the six calls. Its reply, the book and the centre's lines are those of the definitions, and the law over runs
-    /// holds of whatever calls led here, with this one after them.
+    /// Any of the six calls. Its reply, the book and the centre's lines are those of the definitions, and the law over
+    /// runs holds of whatever calls led here, with this one after them. A call that is refused leaves the market, with its
+    /// centre, as it was.
     ///
-    /// The reply's number is 1 to 14 where the call is refused and 50 to 60 where it is accepted. Of its figures the order
-    /// number is at most 999,999 and each count of lots at most 1,000,000, and a denial's depth is at most 99.
+    /// The reply's number is 1 to 14 where the call is refused and 50 to 60 where it is accepted. Of its figures the
+    /// order number is at most 999,999 and each count of lots at most 1,000,000, and a denial's depth is at most 99.
     pub fn call(&mut self, call: Call) -> Reply
         ensures answered { answer (R.QueueRule.rule self.old.book.rule.rule) (C.Centre.own self.old.centre) (state_of self.old.book) (C.Centre.lines self.old.centre) call ≡ done (state_of self.new.book) (C.Centre.lines self.new.centre) result }
         ensures law { CallKeepsTheLaw (R.QueueRule.rule self.old.book.rule.rule) (C.Centre.own self.old.centre) (state_of self.old.book) (C.Centre.lines self.old.centre) call result (state_of self.new.book) (C.Centre.lines self.new.centre) }
         ensures bounded { IsMarketReply result }
+        ensures refused { OnErr result (self.new ≡ self.old) }
         ensures rule { self.new.book.rule ≡ self.old.book.rule }
         ensures settings { C.Centre.own self.new.centre ≡ C.Centre.own self.old.centre }
         ensures layers { C.Centre.depth self.new.centre ≡ C.Centre.depth self.old.centre }

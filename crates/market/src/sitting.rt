@@ -3,6 +3,7 @@ ghost use Rattle.clearing.specs.Centre.{Lines, Own};
 ghost use Rattle.market.specs.Rule.{Rule};
 ghost use Rattle.market.specs.Sitting.{Turned, at_sitting};
 ghost use Rattle.market.specs.State.{State};
+ghost use Rattle.std.specs.Prelude.{◌≡◌, IfNone, IfSome, OnErr};
 
 use crate::checks::opening_fits;
 use crate::period::Period;
@@ -20,9 +21,12 @@ pub struct Sitting {
 }
 
 impl Sitting {
-    // Answers a call that the period decides alone, and moves the period; none where an order is to be looked at.
+    // Answers a call that the period decides alone, and moves the period; none where an order is to be looked at. It moves
+    // only with an acceptance.
     pub(crate) fn turn(&mut self, call: Call) -> Option<Reply>
-        ensures { (R : Rule) (C : Own) (S : State) (L : Lines) → Turned R C (at_sitting self.old S) L call (at_sitting self.new S) result }
+        ensures turned { (R : Rule) (C : Own) (S : State) (L : Lines) → Turned R C (at_sitting self.old S) L call (at_sitting self.new S) result }
+        ensures refused { IfSome result (λ reply. OnErr reply (self.new ≡ self.old)) }
+        ensures let_on { IfNone result (self.new ≡ self.old) }
     {
         match (&mut self.period, call) {
             (

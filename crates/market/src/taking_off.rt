@@ -1,5 +1,5 @@
 // A resting order is withdrawn or reduced. That the centre takes the lots back is proved from the check that it holds them.
-ghost use Rattle.std.specs.Prelude.{◌≡◌, ◌<◌, ◌≤◌, false, [], ◌∷◌, length};
+ghost use Rattle.std.specs.Prelude.{◌≡◌, ◌<◌, ◌≤◌, false, [], ◌∷◌, length, OnErr};
 ghost use Rattle.clearing.specs.Grant.{grant_of};
 ghost use Rattle.clearing.specs.Side.{other};
 ghost use Rattle.dealing.specs.declared.refusal.Refusal.TheVariants.{OutOfStep};
@@ -135,10 +135,11 @@ impl<R: QueueRule> Book<R> {
         figures
     }
 
-    // Withdraws an order.
+    // Withdraws an order. A refusal changes nothing.
     pub(crate) fn withdraw<C: Centre>(&mut self, centre: &mut C, account: i64, number: i64) -> Reply
         requires { is_unopened self.old.sitting.period ≡ false }
         ensures answered { withdrawn-by (state_of self.old) (C.Centre.lines centre.old) account number ≡ done (state_of self.new) (C.Centre.lines centre.new) result }
+        ensures refused { OnErr result ((self.new ≡ self.old) × (centre.new ≡ centre.old)) }
         ensures rule { self.new.rule ≡ self.old.rule }
         ensures settings { C.Centre.own centre.new ≡ C.Centre.own centre.old }
         ensures layers { C.Centre.depth centre.new ≡ C.Centre.depth centre.old }
@@ -150,7 +151,7 @@ impl<R: QueueRule> Book<R> {
         Ok(Outcome::Withdrawn(self.take_off(centre, place, lots)))
     }
 
-    // Reduces an order by some of its lots.
+    // Reduces an order by some of its lots. A refusal changes nothing.
     pub(crate) fn reduce<C: Centre>(
         &mut self,
         centre: &mut C,
@@ -160,6 +161,7 @@ impl<R: QueueRule> Book<R> {
     ) -> Reply
         requires { is_unopened self.old.sitting.period ≡ false }
         ensures answered { reduced-by (state_of self.old) (C.Centre.lines centre.old) account number lots ≡ done (state_of self.new) (C.Centre.lines centre.new) result }
+        ensures refused { OnErr result ((self.new ≡ self.old) × (centre.new ≡ centre.old)) }
         ensures rule { self.new.rule ≡ self.old.rule }
         ensures settings { C.Centre.own centre.new ≡ C.Centre.own centre.old }
         ensures layers { C.Centre.depth centre.new ≡ C.Centre.depth centre.old }

@@ -30,34 +30,34 @@ no_other p Resume on e w r = false≢true on
 pub returns-in-Some-clause-answered : goal.returns-in-Some-clause-answered
 returns-in-Some-clause-answered g c =
     let b = c.args.self.now in
-    c.in-Some.ensures (g.R.QueueRule.rule b.rule.rule) (g.C.Centre.own c.args.centre.now) (state_of b) (g.C.Centre.lines c.args.centre.now)
+    c.in-Some.ensures.turned (g.R.QueueRule.rule b.rule.rule) (g.C.Centre.own c.args.centre.now) (state_of b) (g.C.Centre.lines c.args.centre.now)
 
 pub enter-requires : goal.enter-requires
 enter-requires g c =
     let b = c.args.self.now in
     let R = g.R.QueueRule.rule b.rule.rule in
-    let t = c.in_default.ensures R (g.C.Centre.own c.args.centre.now) (state_of b) (g.C.Centre.lines c.args.centre.now) in
+    let t = c.in_default.ensures.turned R (g.C.Centre.own c.args.centre.now) (state_of b) (g.C.Centre.lines c.args.centre.now) in
     ap (λ (S : State). is_trading S.period) t.0 ∙ subst (λ x. goes_on b.sitting.period x ≡ true) c.in-Enter.is t.1
 
 pub withdraw-requires : goal.withdraw-requires
 withdraw-requires g c =
     let b = c.args.self.now in
     let R = g.R.QueueRule.rule b.rule.rule in
-    let t = c.in_default.ensures R (g.C.Centre.own c.args.centre.now) (state_of b) (g.C.Centre.lines c.args.centre.now) in
+    let t = c.in_default.ensures.turned R (g.C.Centre.own c.args.centre.now) (state_of b) (g.C.Centre.lines c.args.centre.now) in
     ap (λ (S : State). is_unopened S.period) t.0 ∙ not-true _ (subst (λ x. goes_on b.sitting.period x ≡ true) c.in-Withdraw.is t.1)
 
 pub reduce-requires : goal.reduce-requires
 reduce-requires g c =
     let b = c.args.self.now in
     let R = g.R.QueueRule.rule b.rule.rule in
-    let t = c.in_default.ensures R (g.C.Centre.own c.args.centre.now) (state_of b) (g.C.Centre.lines c.args.centre.now) in
+    let t = c.in_default.ensures.turned R (g.C.Centre.own c.args.centre.now) (state_of b) (g.C.Centre.lines c.args.centre.now) in
     ap (λ (S : State). is_unopened S.period) t.0 ∙ not-true _ (subst (λ x. goes_on b.sitting.period x ≡ true) c.in-Reduce.is t.1)
 
 pub unreachable-requires : goal.unreachable-requires
 unreachable-requires g c =
     let b = c.args.self.now in
     let R = g.R.QueueRule.rule b.rule.rule in
-    let t = c.in_default.ensures R (g.C.Centre.own c.args.centre.now) (state_of b) (g.C.Centre.lines c.args.centre.now) in
+    let t = c.in_default.ensures.turned R (g.C.Centre.own c.args.centre.now) (state_of b) (g.C.Centre.lines c.args.centre.now) in
     no_other b.sitting.period c.args.call t.1 c.in_default-call.not-Enter c.in_default-call.not-Withdraw c.in_default-call.not-Reduce
 
 pub returns-in-Enter-clause-answered : goal.returns-in-Enter-clause-answered
@@ -66,7 +66,7 @@ returns-in-Enter-clause-answered g c =
     let R = g.R.QueueRule.rule b.rule.rule in
     let C = g.C.Centre.own c.args.centre.now in
     let L = g.C.Centre.lines c.args.centre.now in
-    let t = c.in_default.ensures R C (state_of b) L in
+    let t = c.in_default.ensures.turned R C (state_of b) L in
     ap (answer R C (state_of b) L) c.in-Enter.is ∙ ap (λ S. enter R C S L c.in-Enter.entry) (sym t.0) ∙ c.enter.ensures.answered
 
 pub returns-in-Withdraw-clause-answered : goal.returns-in-Withdraw-clause-answered
@@ -75,7 +75,7 @@ returns-in-Withdraw-clause-answered g c =
     let R = g.R.QueueRule.rule b.rule.rule in
     let C = g.C.Centre.own c.args.centre.now in
     let L = g.C.Centre.lines c.args.centre.now in
-    let t = c.in_default.ensures R C (state_of b) L in
+    let t = c.in_default.ensures.turned R C (state_of b) L in
     let same = sym t.0 in
     let fa : SFits w64 c.in-Withdraw.account = search rules in
     let fk : SFits w64 c.in-Withdraw.number = search rules in
@@ -89,7 +89,7 @@ returns-in-Reduce-clause-answered g c =
     let R = g.R.QueueRule.rule b.rule.rule in
     let C = g.C.Centre.own c.args.centre.now in
     let L = g.C.Centre.lines c.args.centre.now in
-    let t = c.in_default.ensures R C (state_of b) L in
+    let t = c.in_default.ensures.turned R C (state_of b) L in
     let same = sym t.0 in
     let fa : SFits w64 c.in-Reduce.account = search rules in
     let fk : SFits w64 c.in-Reduce.number = search rules in
