@@ -1,16 +1,17 @@
 -- A reply that the page has room for is printed. Assumes nothing.
-use Rattle.std.proofs.Common.{◌≡◌, ℕ, ◌^◌, ◌<◌, ◌≤◌, true, false, cond, eqb, List, length, is_some, Some, None, Ok, Err, Option, refl, ap, ◌∙◌, subst, arith, lit<, lit≤}
+use Rattle.std.proofs.Common.{◌≡◌, ℕ, ◌^◌, ◌<◌, ◌≤◌, true, false, cond, eqb, List, length, is_some, Some, None, Ok, Err, Option, IfSome, refl, ap, ◌∙◌, subst, arith, lit<, lit≤}
 use Rattle.std.specs.Option.{ok_or}
 use Rattle.std.proofs.lemmas.Bool.{and_from, cond-false, false≢true, le-ltb, lt-ltb}
 use Rattle.clearing.specs.Cause.{cause_number}
 use Rattle.clearing.specs.declared.cause.Cause.TheVariants.{NoLine, OutOfRange, CentreRule, OverFirmCap, NotHeld, BadSetting}
 use Rattle.clearing.specs.declared.cause.Denial.{Denial}
-use Rattle.dealing.specs.Replies.{Reply, outcome_number, place, refusal_number, reply_number}
+use Rattle.dealing.specs.Replies.{Reply, denial, figures, outcome_number, place, refusal_number, reply_number}
 use Rattle.dealing.specs.declared.call.Call.{Call}
 use Rattle.dealing.specs.declared.outcome.Outcome.{Outcome}
 use Rattle.dealing.specs.declared.outcome.Outcome.TheVariants as outcome
 use Rattle.dealing.specs.declared.refusal.Refusal.{Refusal}
 use Rattle.dealing.specs.declared.refusal.Refusal.TheVariants as refusal
+use Rattle.market.specs.Fits.{FiguresFit, IsMarketReply, is_market_number}
 use Rattle.page.specs.Columns.{all_fit}
 use Rattle.page.specs.Command.{call_of, call_or_refusal, head_of, read_command}
 use Rattle.page.specs.Printed.{cause_of, denial_of, depth_of, figures_of, layout, placed_line, print_result, said}
@@ -103,3 +104,58 @@ unread_fits bs =
 
 pub refusal_fits : (bs : List ℕ) (e : Refusal) → read_command bs ≡ Err e → FitsPage (Err e)
 refusal_fits bs e is = subst RefusalFits is (unread_fits bs)
+
+-- A market's replies
+
+-- the numbers that a market gives own a phrase
+owned_outcome : (o : Outcome) → is_some (place (outcome_number o)) ≡ true
+owned_outcome (outcome.Filled f) = refl
+owned_outcome (outcome.Resting f) = refl
+owned_outcome (outcome.PartResting f) = refl
+owned_outcome (outcome.TakenOff f) = refl
+owned_outcome (outcome.PartOffAtLimit f) = refl
+owned_outcome (outcome.PartOffAtOwn f) = refl
+owned_outcome (outcome.Withdrawn f) = refl
+owned_outcome (outcome.Reduced f) = refl
+owned_outcome outcome.Suspended = refl
+owned_outcome outcome.Resumed = refl
+owned_outcome outcome.Opened = refl
+
+owned_refusal : (e : Refusal) → is_market_number (refusal_number e) ≡ true → is_some (place (refusal_number e)) ≡ true
+owned_refusal refusal.WrongPeriod given = refl
+owned_refusal refusal.LotsOutOfRange given = refl
+owned_refusal refusal.MarketTerms given = refl
+owned_refusal refusal.PriceOutOfBand given = refl
+owned_refusal refusal.NumbersUsedUp given = refl
+owned_refusal refusal.OwnOrderFirst given = refl
+owned_refusal refusal.NotInFull given = refl
+owned_refusal refusal.RegisterFull given = refl
+owned_refusal refusal.QueueFull given = refl
+owned_refusal refusal.NoSuchOrder given = refl
+owned_refusal refusal.NotYourOrder given = refl
+owned_refusal refusal.ReductionOutOfRange given = refl
+owned_refusal refusal.OutOfStep given = refl
+owned_refusal (refusal.CentreDenies d) given = refl
+owned_refusal refusal.UnsoundText given = absurd (false≢true given)
+owned_refusal refusal.SharedPhrase given = absurd (false≢true given)
+owned_refusal refusal.LineTooShort given = absurd (false≢true given)
+owned_refusal refusal.CommandLength given = refl
+owned_refusal refusal.CommandLetter given = refl
+owned_refusal refusal.CommandNumber given = refl
+owned_refusal refusal.NotPrintable given = absurd (false≢true given)
+
+shallow : (d : Option Denial) → IfSome d (λ x. x.depth ≤ 99) → depth_of d ≤ 99
+shallow None few = lit≤ tt
+shallow (Some d) few = few
+
+-- the page has room for every reply of a market
+pub market_reply_fits : (reply : Reply) → IsMarketReply reply → FitsPage reply
+market_reply_fits (Ok o) reply =
+    let it : FiguresFit (figures o) = reply.figures in
+    let number = it.number in
+    let traded = it.traded in
+    let resting = it.resting in
+    let off = it.off in
+    record { phrased = owned_outcome o; depth = lit≤ tt; number = omega arith; traded = omega arith; resting = omega arith; off = omega arith }
+market_reply_fits (Err e) reply =
+    record { phrased = owned_refusal e reply.number; depth = shallow (denial e) reply.depth; number = lit≤ tt; traded = lit≤ tt; resting = lit≤ tt; off = lit≤ tt }
