@@ -1,5 +1,5 @@
 // Layers over a house's own centre, which has no accounts and says how many layers are below it.
-ghost use Rattle.std.specs.Prelude.{◌≤◌, None};
+ghost use Rattle.std.specs.Prelude.{◌≡◌, ◌≤◌, None};
 ghost use Rattle.std.proofs.Common.{rules};
 
 use crate::layers::full_layer;
@@ -23,11 +23,21 @@ impl Centre for Deep {
 
     ghost depth = { λ s. s.layers };
 
+    ghost same_settings = { λ s t. s.layers ≡ t.layers };
+
     ghost sound = { Prim.search rules };
 
     ghost denies = { Prim.search rules };
 
     ghost shallow = { λ s. s.few };
+
+    ghost same_own = { Prim.search rules };
+
+    ghost same_depth = { Prim.search rules };
+
+    ghost same_self = { Prim.search rules };
+
+    ghost same_on = { Prim.search rules };
 
     fn depth(&self) -> u8 {
         self.layers

@@ -80,12 +80,12 @@ impl<R: QueueRule + Drop> Book<R> {
 }
 
 impl<R: QueueRule, C: Centre> Market<R, C> {
-    /// Any of the six calls. Its reply, the book and the centre's lines are those of the definitions, and the law over runs
-    /// holds of whatever calls led here, with this one after them. A call that is refused leaves the market, with its centre,
-    /// as it was.
+    /// Any of the six calls. Its reply, the book and the centre's lines are those of the definitions, and the law over
+    /// runs holds of whatever calls led here, with this one after them. A call that is refused leaves the market, with its
+    /// centre, as it was.
     ///
-    /// The reply's number is 1 to 14 where the call is refused and 50 to 60 where it is accepted. Of its figures the order
-    /// number is at most 999,999 and each count of lots at most 1,000,000, and a denial's depth is at most 99.
+    /// The reply's number is 1 to 14 where the call is refused and 50 to 60 where it is accepted. Of its figures the
+    /// order number is at most 999,999 and each count of lots at most 1,000,000, and a denial's depth is at most 99.
     pub fn call(&mut self, call: Call) -> Reply
         ensures answered { answer (R.QueueRule.rule self.old.book.rule.rule) (C.Centre.own self.old.centre) (state_of self.old.book) (C.Centre.lines self.old.centre) call ≡ done (state_of self.new.book) (C.Centre.lines self.new.centre) result }
         ensures law { CallKeepsTheLaw (R.QueueRule.rule self.old.book.rule.rule) (C.Centre.own self.old.centre) (state_of self.old.book) (C.Centre.lines self.old.centre) call result (state_of self.new.book) (C.Centre.lines self.new.centre) }

@@ -17,9 +17,9 @@ pub struct Ran<R, C> {
     pub replies: Vec<Reply>,
 }
 
-/// Gives the calls to a new market over a centre, one after another. The market and the replies are those of the definitions;
-/// and where the centre had nothing held or settled, the law holds at the start and after each call. The replies are kept in
-/// room for exactly as many as there are calls.
+/// Gives the calls to a new market over a centre, one after another. The market and the replies are those of the
+/// definitions; and where the centre had nothing held or settled, the law holds at the start and after each call. The
+/// replies are kept in room for exactly as many as there are calls.
 pub fn run<R: QueueRule + Drop, C: Centre + Drop>(
     heap: Global,
     rule: R,

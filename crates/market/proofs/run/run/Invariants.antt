@@ -1,4 +1,4 @@
--- The calls so far are a run of their own, with one reply for each, and there is room for just as many as there are calls.
+-- The calls so far are a run of their own, with one reply for each, and there is room for as many replies as calls.
 use Rattle.std.proofs.Common.{◌≡◌, length, take}
 use Rattle.market.specs.BookState.{state_of}
 use Rattle.market.specs.Law.{IsRun}
