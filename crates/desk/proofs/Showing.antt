@@ -1,7 +1,7 @@
 -- A reply that the page has room for is printed. Assumes nothing.
 use Rattle.std.proofs.Common.{◌≡◌, ℕ, ◌^◌, ◌<◌, ◌≤◌, true, false, cond, eqb, List, length, is_some, Some, None, Ok, Err, Option, IfSome, refl, ap, ◌∙◌, subst, arith, lit<, lit≤}
 use Rattle.std.specs.Option.{ok_or}
-use Rattle.std.proofs.lemmas.Bool.{and_from, cond-false, false≢true, le-ltb, lt-ltb}
+use Rattle.std.proofs.lemmas.Bool.{and_from, cond-false, cond-true, false≢true, le-ltb, lt-ltb}
 use Rattle.clearing.specs.Cause.{cause_number}
 use Rattle.clearing.specs.declared.cause.Cause.TheVariants.{NoLine, OutOfRange, CentreRule, OverFirmCap, NotHeld, BadSetting}
 use Rattle.clearing.specs.declared.cause.Denial.{Denial}
@@ -14,7 +14,7 @@ use Rattle.dealing.specs.declared.refusal.Refusal.TheVariants as refusal
 use Rattle.market.specs.Fits.{FiguresFit, IsMarketReply, is_market_number}
 use Rattle.page.specs.Columns.{all_fit}
 use Rattle.page.specs.Command.{call_of, call_or_refusal, head_of, read_command}
-use Rattle.page.specs.Printed.{cause_of, denial_of, depth_of, figures_of, layout, placed_line, print_result, said}
+use Rattle.page.specs.Printed.{cause_of, denial_of, depth_of, figures_of, layout, placed_line, print_result, printed}
 use Rattle.desk.specs.Desk.{FitsPage, RefusalFits, page_line}
 
 small_cause : (d : Option Denial) → cause_of d < 100
@@ -75,13 +75,17 @@ fits number reply low room =
     (and_from _ _ (lt-ltb (figures_of reply).taken_off (10 ^ 8) (omega arith)) refl)))))))
 
 module _ (ps : List (List ℕ)) (number : ℕ) (reply : Reply) where
-  placed : (o : Option ℕ) → is_some o ≡ true → all_fit (layout (page_line number reply)) ≡ true → said (ok_or (placed_line ps (page_line number reply) o) refusal.NotPrintable) ≡ Ok tt
+  placed : (o : Option ℕ) → is_some o ≡ true → all_fit (layout (page_line number reply)) ≡ true → (line : List ℕ) × (placed_line ps (page_line number reply) o ≡ Some line)
   placed None e f = absurd (false≢true e)
-  placed (Some i) e f = rw f
+  placed (Some i) e f = (_, cond-true _ _ _ f)
 
-  pub fitting_is_printed : (out : ℕ) → 86 ≤ out → number ≤ 9999999 → FitsPage reply → said (print_result ps (page_line number reply) out) ≡ Ok tt
-  fitting_is_printed out long low room =
-      ap said (cond-false _ _ _ (le-ltb out 86 long)) ∙ placed (place (reply_number reply)) room.phrased (fits number reply low room)
+  -- there is a line for it
+  pub fitting_has_line : number ≤ 9999999 → FitsPage reply → (line : List ℕ) × (printed ps (page_line number reply) ≡ Some line)
+  fitting_has_line low room = placed (place (reply_number reply)) room.phrased (fits number reply low room)
+
+  -- and it is what printing gives
+  pub printed_is_result : (n : ℕ) → 86 ≤ n → (line : List ℕ) → printed ps (page_line number reply) ≡ Some line → print_result ps (page_line number reply) n ≡ Ok line
+  printed_is_result n long line is = cond-false _ _ _ (le-ltb n 86 long) ∙ ap (λ o. ok_or o refusal.NotPrintable) is
 
 -- the three refusals of reading fit
 number_fits : (o : Option Call) → RefusalFits (ok_or o refusal.CommandNumber)

@@ -1,12 +1,29 @@
 -- How a command line is answered. Assumes nothing.
-use Rattle.std.specs.Prelude.{◌≡◌, ℕ, ◌≤◌, true, List, length, is_some, Ok, Err, Result}
+use Rattle.std.specs.Prelude.{◌≡◌, ℕ, ◌≤◌, ◌++◌, true, List, drop, is_some, Some, Ok, Err, Result, OnErr}
+use Rattle.clearing.specs.Centre.{Lines, Own}
 use Rattle.dealing.specs.Replies.{Reply, place, reply_number}
 use Rattle.dealing.specs.declared.call.Call.{Call}
 use Rattle.dealing.specs.declared.refusal.Refusal.{Refusal}
+use Rattle.market.specs.BookState.{state_of}
+use Rattle.market.specs.Calls.{answer, done}
+use Rattle.market.specs.Fits.{IsMarketReply}
+use Rattle.market.specs.Law.{CallKeepsTheLaw}
+use Rattle.market.specs.Rule.{Rule}
+use Rattle.market.specs.declared.market.Market.{Market}
 use Rattle.page.specs.declared.printed.PageLine.{PageLine}
-use Rattle.page.specs.Printed.{denial_of, depth_of, figures_of, over, print_result, said}
+use Rattle.page.specs.Printed.{denial_of, depth_of, figures_of, printed}
 
--- what a line that was read comes to: a call is made, and a refusal leaves the market as it was
+-- what a market says of each of its calls, the rule and the centre being seen through these: the reply and the state are those
+-- of the rules, the law goes on, the queue rule and no setting moves, a refusal leaves everything, and the reply is in range
+pub record Called {R C : Type 0} (rule : R → Rule) (own : C → Own) (lines : C → Lines) (same : C → C → Type 0) (m : Market R C) (call : Call) (n : Market R C) (reply : Reply) : Type 0 where
+  pub answered : answer (rule m.book.rule.rule) (own m.centre) (state_of m.book) (lines m.centre) call ≡ done (state_of n.book) (lines n.centre) reply
+  pub law : CallKeepsTheLaw (rule m.book.rule.rule) (own m.centre) (state_of m.book) (lines m.centre) call reply (state_of n.book) (lines n.centre)
+  pub queue_rule : n.book.rule ≡ m.book.rule
+  pub settings : same m.centre n.centre
+  pub refused : OnErr reply (n ≡ m)
+  pub bounded : IsMarketReply reply
+
+-- what a line that was read comes to: a call is made, and a line that cannot be read leaves the market as it was
 abbrev pub Dealt : {M : Type 0} → (M → Call → M → Reply → Type 0) → M → Result Call Refusal → M → Reply → Type 0
 Dealt Called m (Ok call) n reply = Called m call n reply
 Dealt Called m (Err e) n reply = (reply ≡ Err e) × (n ≡ m)
@@ -29,8 +46,8 @@ abbrev pub RefusalFits : Result Call Refusal → Type 0
 RefusalFits (Ok call) = Unit {0}
 RefusalFits (Err e) = FitsPage (Err e)
 
--- what printing a reply says, and the caller's bytes after it; a reply that fits is printed
-pub record Shown (ps : List (List ℕ)) (number : ℕ) (reply : Reply) (out after : List ℕ) (r : Result (Unit {0}) Refusal) : Type 0 where
-  pub value : r ≡ said (print_result ps (page_line number reply) (length out))
-  pub bytes : after ≡ over (print_result ps (page_line number reply) (length out)) out
-  pub printed : FitsPage reply → r ≡ Ok tt
+-- the reply's line, printed with these phrases, stands in the caller's first bytes, and the others stay
+pub record Shown (ps : List (List ℕ)) (number : ℕ) (reply : Reply) (out after : List ℕ) : Type 0 where
+  pub line : List ℕ
+  pub printed : printed ps (page_line number reply) ≡ Some line
+  pub bytes : after ≡ line ++ drop 86 out

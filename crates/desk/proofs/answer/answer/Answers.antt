@@ -1,24 +1,22 @@
-use Rattle.std.proofs.Common.{length, ◌∙◌, rules}
+-- The page has room for the reply, so that its line is printed.
+use Rattle.std.proofs.Common.{ap, length, rules, ◌∙◌}
 use Rattle.page.specs.Phrases.{phrases}
-use Rattle.desk.proofs.Showing.{fitting_is_printed}
+use Rattle.page.specs.Printed.{over, said}
+use Rattle.desk.proofs.Showing.{fitting_has_line, printed_is_result}
 use Rattle.desk.proofs.answer.answer.Goals as goal
 
-pub returns : goal.returns
-returns g c =
-    record {
-      short = search rules;
-      over = search rules;
-      answered = λ long low. (
-        c.deal-reply.result,
-        c.deal-reply.ensures.dealt,
-        record {
-          value = c.print.ensures.value;
-          bytes = c.print.ensures.bytes;
-          printed = λ room. c.print.ensures.value ∙ fitting_is_printed (phrases c.args.table.now.rows) c.args.number c.deal-reply.result (length c.args.out.now) long low room;
-        },
-      );
-      refused = λ long low e is.
-          c.print.ensures.value
-          ∙ fitting_is_printed (phrases c.args.table.now.rows) c.args.number c.deal-reply.result (length c.args.out.now) long low
-          (c.deal-reply.ensures.refused e is);
-    }
+pub returns-clause-answered : goal.returns-clause-answered
+returns-clause-answered g c long low =
+    let ps = phrases c.args.table.now.rows in
+    let reply = c.deal-reply.result in
+    let line = fitting_has_line ps c.args.number reply low c.deal-reply.ensures.fits in
+    let result = printed_is_result ps c.args.number reply (length c.args.out.now) long line.0 line.1 in (
+      reply,
+      c.deal-reply.ensures.dealt,
+      record {
+        line = line.0;
+        printed = line.1;
+        bytes = c.print.ensures.bytes ∙ ap (λ r. over r c.args.out.now) result;
+      },
+      c.print.ensures.value ∙ ap said result,
+    )
