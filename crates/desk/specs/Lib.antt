@@ -1,2 +1,3 @@
 pub mod Desk
 pub mod Input
+pub mod Served

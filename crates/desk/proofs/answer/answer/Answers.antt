@@ -1,5 +1,5 @@
 -- The page has room for the reply, so that its line is printed.
-use Rattle.std.proofs.Common.{ap, length, rules, ◌∙◌}
+use Rattle.std.proofs.Common.{ap, length, ◌∙◌}
 use Rattle.page.specs.Phrases.{phrases}
 use Rattle.page.specs.Printed.{over, said}
 use Rattle.desk.proofs.Showing.{fitting_has_line, printed_is_result}
