@@ -1,7 +1,6 @@
 pub mod BookState
 pub mod Calls
 pub mod Carry
-pub mod Examples
 pub mod Law
 pub mod Naming
 pub mod Order
