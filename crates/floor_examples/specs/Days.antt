@@ -17,12 +17,12 @@ use Rattle.floor_examples.specs.Replies.{same, seven}
 use Rattle.floor_examples.specs.House.{Centre}
 
 infix 68 ◌⇒◌
-
 -- a call with the reply expected
 pub record Row : Type 0 where
   pub call : Call
   pub reply : List ℕ
 
+-- a row of the table
 abbrev pub ◌⇒◌ : Call → List ℕ → Row
 ◌⇒◌ c r = record { call = c; reply = r }
 
@@ -33,6 +33,7 @@ agree [] (r ∷ rs) = false
 agree (s ∷ ss) [] = false
 agree (s ∷ ss) (r ∷ rs) = same (seven s.reply) r.reply && agree ss rs
 
+-- the replies are those expected, and the day ends as it should
 abbrev pub judged : Day → List Row → (Day → Bool) → Bool
 judged d rows ends = agree d.history rows && ends d
 
@@ -53,6 +54,7 @@ begun last bs ss ts change L =
 abbrev pub bid : ℕ → ℕ → ℕ → ℕ → Order
 bid k a p n = order_of (pos a) Buy k (pos p) n
 
+-- the same of a sell
 abbrev pub ask : ℕ → ℕ → ℕ → ℕ → Order
 ask k a p n = order_of (pos a) Sell k (pos p) n
 

@@ -75,6 +75,7 @@ last_numbers =
 abbrev pub two_buys : List Row
 two_buys = opens 1 100000 50 ⇒ just 60 ∷ buy Q 101 7000 10 ⇒ ok 51 1 0 10 0 ∷ buy Q 102 6999 10 ⇒ ok 51 2 0 10 0 ∷ []
 
+-- rows after these two
 abbrev pub after_buys : List Row → (Day → Bool) → Bool
 after_buys rows ends = case rate (position 50) morning (two_buys ++ rows) ends
 

@@ -14,15 +14,19 @@ use Rattle.floor_examples.specs.Days.{Row, case, morning, ◌⇒◌}
 abbrev pub start : ℕ → List Row
 start deviation = opens 1 100000 deviation ⇒ just 60 ∷ sell Q 101 7000 10 ⇒ ok 51 1 0 10 0 ∷ sell Q 102 7001 10 ⇒ ok 51 2 0 10 0 ∷ []
 
+-- one row more from this start, and how the day ends
 abbrev pub from_start : ℕ → Row → (Day → Bool) → Bool
 from_start deviation r ends = case rate (position 50) morning (start deviation ++ (r ∷ [])) ends
 
+-- the trade with the first sell
 abbrev pub at_7000 : ℕ → Trade
 at_7000 account = trade 3 1 account 101 7000 10
 
+-- the trade with the second
 abbrev pub at_7001 : Trade
 at_7001 = trade 3 2 103 102 7001 10
 
+-- the first table of the floor's rules
 abbrev pub floor_table : Bool
 floor_table =
     from_start 50 (buy Q 102 7005 15 ⇒ ok 55 3 10 0 5) (register (at_7000 102 ∷ []) and buys [] and sells (2 ∷ 10 ∷ []))
@@ -46,6 +50,7 @@ floor_lines =
     && from_start 50 (buy Q 103 7000 12 ⇒ ok 52 3 10 2 0)
     (line 101 (0 ∷ 0 ∷ 0 ∷ 10 ∷ []) and line 102 (0 ∷ 0 ∷ 10 ∷ 0 ∷ []) and line 103 (2 ∷ 10 ∷ 0 ∷ 0 ∷ []) and line 104 [])
 
+-- the further examples from the same start
 abbrev pub floor_further : Bool
 floor_further =
     from_start 50 (buy T 102 7000 15 ⇒ ok 54 3 10 0 5) any

@@ -12,6 +12,7 @@ use Rattle.floor_examples.specs.House.{position}
 use Rattle.floor_examples.specs.Ends.{any, buys, line, register, sells, trade, ◌and◌}
 use Rattle.floor_examples.specs.Days.{as_made, ask, begun, bid, case, counted, with_line, ◌⇒◌}
 
+-- a trade that the register has already
 abbrev pub old : Trade
 old = trade 5 6 101 102 100 1
 
@@ -21,6 +22,7 @@ registered n =
     begun 600 [] (ask 1 101 100 2 ∷ ask 2 102 101 2 ∷ []) (replicate n old)
     (λ L. with_line 101 (counted 0 0 2 0) (with_line 102 (counted 0 0 2 0) L))
 
+-- walks with more trades than the register has places for, and with as many
 abbrev pub full_register : Bool
 full_register =
     case rate (position 50) (registered 511)
@@ -55,6 +57,7 @@ abbrev pub bids_from : ℕ → ℕ → List Order
 bids_from k zero = []
 bids_from k (suc n) = bid k 101 100 1 ∷ bids_from (suc k) n
 
+-- the same of sells
 abbrev pub asks_from : ℕ → ℕ → List Order
 asks_from k zero = []
 asks_from k (suc n) = ask k 101 100 1 ∷ asks_from (suc k) n
@@ -63,6 +66,7 @@ asks_from k (suc n) = ask k 101 100 1 ∷ asks_from (suc k) n
 abbrev pub resting_lines : ℕ → Lines → Lines
 resting_lines n L = with_line 101 (counted n 0 n 0) L
 
+-- rests that find their queue full, whatever the walk takes out of the other one
 abbrev pub full_queues : Bool
 full_queues =
     case rate (position 1000) (begun 64 (bids_from 1 64) [] [] (resting_lines 64))

@@ -22,6 +22,7 @@ four_sells =
     ∷ sell Q 102 105 2 ⇒ ok 51 4 0 2 0
     ∷ []
 
+-- rows after these four
 abbrev pub after_sells : List Row → (Day → Bool) → Bool
 after_sells rows ends = case rate (position 50) morning (four_sells ++ rows) ends
 

@@ -15,6 +15,7 @@ use Rattle.floor_examples.specs.Days.{ask, begun, bid, case, counted, with_line,
 abbrev pub stepped : (Lines → Lines) → Lines → Day
 stepped with = begun 4 (bid 4 103 90 3 ∷ []) (ask 1 101 100 5 ∷ ask 2 102 101 5 ∷ ask 3 101 102 5 ∷ []) [] (λ L. with (with_line 103 (counted 3 0 0 0) L))
 
+-- lines that cover less than what rests, no line, and more than what rests
 abbrev pub steps : Bool
 steps =
     -- account 101 has 10 resting and 9 held

@@ -11,6 +11,7 @@ use Rattle.floor_examples.specs.House.{position}
 use Rattle.floor_examples.specs.Ends.{buys, line, register, sells, trade, ◌and◌}
 use Rattle.floor_examples.specs.Days.{case, morning, ◌⇒◌}
 
+-- what each period allows, the terms of an opening, and a band of one price
 abbrev pub periods : Bool
 periods =
     case rate (position 50) morning

@@ -5,14 +5,16 @@ use Rattle.clearing.specs.declared.cause.Denial.{Denial}
 use Rattle.dealing.specs.Replies.{Reply, denial, figures, reply_number}
 use Rattle.dealing.specs.declared.outcome.Figures.{Figures}
 
--- a reply as seven numbers: reply, cause, depth, order number, traded, resting, taken off
+-- cause and depth, both 0 where the centre said nothing
 abbrev pub with_denial : Option Denial → List ℕ
 with_denial None = 0 ∷ 0 ∷ []
 with_denial (Some d) = cause_number d.cause ∷ d.depth ∷ []
 
+-- the order number and its lots
 abbrev pub with_figures : Figures → List ℕ
 with_figures f = f.number ∷ f.traded ∷ f.resting ∷ f.taken_off ∷ []
 
+-- a reply as seven numbers: reply, cause, depth, order number, traded, resting, taken off
 abbrev pub seven : Reply → List ℕ
 seven (Ok o) = reply_number (Ok o) ∷ 0 ∷ 0 ∷ with_figures (figures o)
 seven (Err e) = reply_number (Err e) ∷ with_denial (denial e) ++ (0 ∷ 0 ∷ 0 ∷ 0 ∷ [])
@@ -33,6 +35,7 @@ refusal number = ok number 0 0 0 0
 abbrev pub centre_says : ℕ → ℕ → List ℕ
 centre_says cause depth = 14 ∷ cause ∷ depth ∷ 0 ∷ 0 ∷ 0 ∷ 0 ∷ []
 
+-- two lists of numbers are equal
 abbrev pub same : List ℕ → List ℕ → Bool
 same [] [] = true
 same [] (y ∷ ys) = false

@@ -10,6 +10,7 @@ use Rattle.floor_examples.specs.Limits.{full_queues, full_register}
 use Rattle.floor_examples.specs.OutOfStep.{steps}
 use Rattle.floor_examples.specs.Denials.{denials, deposits, layers}
 
+-- each example gives the replies that stand in it
 abbrev pub worked : Bool
 worked =
     floor_table

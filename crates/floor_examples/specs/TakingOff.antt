@@ -9,6 +9,7 @@ use Rattle.floor_examples.specs.House.{position}
 use Rattle.floor_examples.specs.Ends.{buys, line, register, sells, ◌and◌}
 use Rattle.floor_examples.specs.Days.{case, morning, ◌⇒◌}
 
+-- whose order it is, which lots a reduction may have, and what is left
 abbrev pub calls_taking_off : Bool
 calls_taking_off =
     case rate (position 50) morning
