@@ -1,7 +1,6 @@
 pub mod BookState
 pub mod Calls
 pub mod Carry
-pub mod Examples
 pub mod Fits
 pub mod Law
 pub mod Naming

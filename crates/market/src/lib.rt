@@ -7,7 +7,6 @@ mod carrying;
 mod checks;
 mod ending;
 mod entering;
-pub mod examples;
 mod judging;
 pub mod law;
 pub mod market;

@@ -8,6 +8,8 @@ mod market_entries;
 #[cfg(test)]
 mod room;
 #[cfg(test)]
+mod runs;
+#[cfg(test)]
 mod scene;
 #[cfg(test)]
 mod steps;

@@ -1,0 +1,15 @@
+pub mod Calls
+pub mod Replies
+pub mod House
+pub mod Ends
+pub mod Days
+pub mod Floor
+pub mod Periods
+pub mod Entries
+pub mod Standing
+pub mod Markets
+pub mod TakingOff
+pub mod Limits
+pub mod OutOfStep
+pub mod Denials
+pub mod Table
