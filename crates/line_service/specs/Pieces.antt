@@ -1,0 +1,28 @@
+-- A line that comes in pieces, and what is kept of it.
+use Rattle.std.specs.Prelude.{◌≡◌, ◌≢◌, ℕ, ◌≤◌, Bool, true, false, List, [], ◌∷◌, ◌++◌, All, length, take, ⊤}
+use Rattle.std.specs.declared.option.Option.{Option}
+use Rattle.std.specs.Io.KnownBytes.{Consumes}
+use Rattle.line_service.specs.declared.line.Piece.{Piece}
+
+-- no byte of these ends a line
+abbrev pub IsWithinLine : List ℕ → Type 0
+IsWithinLine bytes = All (λ byte. byte ≢ 10) bytes
+
+-- the byte 10 of a line, if it has come
+abbrev pub end_of : Bool → List ℕ
+end_of true = 10 ∷ []
+end_of false = []
+
+-- the first n bytes that are kept are those of the line, as far as there is room
+pub record Holds (kept : List ℕ) (n : ℕ) (line : List ℕ) : Type 0 where
+  pub within : n ≤ length kept
+  pub bytes : take n kept ≡ take (length kept) line
+
+-- whatever line was kept, it is kept with these bytes behind it
+abbrev pub HoldsMore : List ℕ → ℕ → List ℕ → ℕ → List ℕ → Type 0
+HoldsMore kept n new m bytes = (line : List ℕ) → Holds kept n line → Holds new m (line ++ bytes)
+
+-- a piece of a line was read, with the byte 10 if it came, and is kept
+abbrev pub TakesPiece : Option (List ℕ) → Option (List ℕ) → List ℕ → ℕ → List ℕ → Piece → Type 0
+TakesPiece known rest kept n new piece =
+    (bytes : List ℕ) × IsWithinLine bytes × Consumes known rest (bytes ++ end_of piece.ended) × HoldsMore kept n new piece.len bytes
