@@ -1,7 +1,12 @@
 -- Lemmas on what is kept of a line that comes in pieces.
-use Rattle.std.proofs.Common.{◌≡◌, ℕ, zero, suc, ◌+◌, ◌-◌, ◌≤◌, min, List, [], ◌∷◌, ◌++◌, length, take, refl, sym, ap, ◌∙◌, arith, length-append, length-take}
+use Rattle.std.proofs.Common.{◌≡◌, ◌≢◌, ℕ, zero, suc, ◌+◌, ◌-◌, ◌≤◌, min, List, [], ◌∷◌, ◌++◌, length, take, refl, sym, ap, subst, ◌∙◌, append_assoc, arith, length-append, length-take}
 use Rattle.std.proofs.lemmas.List.{take_min}
-use Rattle.line_service.specs.Pieces.{Holds, HoldsMore}
+use Rattle.std.proofs.lemmas.List.Elements.{All-append}
+use Rattle.std.specs.declared.option.Option.{Option}
+use Rattle.std.specs.Io.KnownBytes.{Consumes}
+use Rattle.std.proofs.KnownBytes.{Consumes-trans}
+use Rattle.line_service.specs.declared.line.Piece.{Piece}
+use Rattle.line_service.specs.Pieces.{Holds, HoldsMore, IsWithinLine, TakesPiece, end_of}
 
 -- a front of two lists one after the other
 pub take-append : {X : Type 0} (n : ℕ) (xs ys : List X) → take n (xs ++ ys) ≡ take n xs ++ take (n - length xs) ys
@@ -28,3 +33,15 @@ HoldsMore-kept kept new bytes n count within is same wrote line held =
   where
     take_min' : (k : ℕ) → take (min k (length bytes)) bytes ≡ take k bytes
     take_min' k = take_min k bytes
+
+-- what was kept before a piece, and the piece
+pub TakesPiece-more : (a b c : Option (List ℕ)) (first kept new : List ℕ) (n m : ℕ) (piece : Piece) (bytes : List ℕ) → IsWithinLine bytes
+    → Consumes a b bytes → HoldsMore first n kept m bytes → TakesPiece b c kept m new piece → TakesPiece a c first n new piece
+TakesPiece-more a b c first kept new n m piece bytes within read held took =
+    record {
+      fits = took.fits;
+      bytes = bytes ++ took.bytes;
+      within = All-append (λ byte. byte ≢ 10) bytes took.bytes within took.within;
+      read = subst (Consumes a c) (sym (append_assoc bytes took.bytes (end_of piece.ended))) (Consumes-trans a b c bytes (took.bytes ++ end_of piece.ended) read took.read);
+      held = λ line was. subst (Holds new piece.len) (append_assoc line bytes took.bytes) (took.held (line ++ bytes) (held line was));
+    }

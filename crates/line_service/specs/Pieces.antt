@@ -23,6 +23,9 @@ abbrev pub HoldsMore : List ℕ → ℕ → List ℕ → ℕ → List ℕ → Ty
 HoldsMore kept n new m bytes = (line : List ℕ) → Holds kept n line → Holds new m (line ++ bytes)
 
 -- a piece of a line was read, with the byte 10 if it came, and is kept
-abbrev pub TakesPiece : Option (List ℕ) → Option (List ℕ) → List ℕ → ℕ → List ℕ → Piece → Type 0
-TakesPiece known rest kept n new piece =
-    (bytes : List ℕ) × IsWithinLine bytes × Consumes known rest (bytes ++ end_of piece.ended) × HoldsMore kept n new piece.len bytes
+pub record TakesPiece (known rest : Option (List ℕ)) (kept : List ℕ) (n : ℕ) (new : List ℕ) (piece : Piece) : Type 0 where
+  pub fits : piece.len ≤ length new
+  pub bytes : List ℕ
+  pub within : IsWithinLine bytes
+  pub read : Consumes known rest (bytes ++ end_of piece.ended)
+  pub held : HoldsMore kept n new piece.len bytes

@@ -12,9 +12,8 @@ returns-in-Some-clause-piece g c =
     let rested = c.fill_buf.follows.lender-at-none in
     let filled = subst (FillKeeps _ (g.R.Read.remaining rested) (g.R.BufRead.consumable_len rested)) c.in_ok-buffer.was c.fill_buf.follows.holds-at-none in
     let found = c.in-Some.ensures.found in
-    let all : end - 0 ≡ end = omega arith in
     let moved = Consumes_shown _ _ _ _ shown (end + 1) (omega (arith, found.0)) c.in_ok-buffer.ensures.front c.in_ok-buffer.ensures.end filled.0 filled.1 c.consume.ensures.bytes in
-    (take end shown, found.1, subst (Consumes _ _) found.2 moved.0, subst (λ k. HoldsMore c.args.kept.now c.args.len c.keep-len.new.kept c.keep-len.result (take k shown)) all c.keep-len.ensures.held)
+    record { fits = c.keep-len.ensures.fits; bytes = take end shown; within = found.1; read = subst (Consumes _ _) found.2 moved.0; held = c.keep-len.ensures.held }
 
 pub returns-in-None-clause-piece : goal.returns-in-None-clause-piece
 returns-in-None-clause-piece g c =
@@ -22,4 +21,10 @@ returns-in-None-clause-piece g c =
     let rested = c.fill_buf.follows.lender-at-none in
     let filled = subst (FillKeeps _ (g.R.Read.remaining rested) (g.R.BufRead.consumable_len rested)) c.in_ok-buffer.was c.fill_buf.follows.holds-at-none in
     let moved = Consumes_shown _ _ _ _ shown (length shown) (le_refl (length shown)) c.in_ok-buffer.ensures.front c.in_ok-buffer.ensures.end filled.0 filled.1 c.consume-in-None.ensures.bytes in
-    (shown, c.in-None.ensures.none, subst (Consumes _ _) (take_all (length shown) shown (le_refl (length shown)) ∙ sym (append-nil shown)) moved.0, c.keep-len-in-None.ensures.held)
+    record {
+      fits = c.keep-len-in-None.ensures.fits;
+      bytes = shown;
+      within = c.in-None.ensures.none;
+      read = subst (Consumes _ _) (take_all (length shown) shown (le_refl (length shown)) ∙ sym (append-nil shown)) moved.0;
+      held = c.keep-len-in-None.ensures.held;
+    }
