@@ -1,10 +1,12 @@
 -- Lemmas on the lines of a text.
-use Rattle.std.proofs.Common.{◌≡◌, ◌≢◌, ℕ, ◌<◌, Bool, eqb, cond, List, [], ◌∷◌, ◌++◌, length, None, Some, OnSome, refl, sym, ap, ◌∙◌, arith, append_assoc, append-nil, ne_eqb}
-use Rattle.std.proofs.lemmas.List.Elements.{All-head, All-tail}
+use Rattle.std.proofs.Common.{◌≡◌, ◌≢◌, ℕ, ◌<◌, cond, true, false, List, [], ◌∷◌, ◌++◌, length, None, Some, OnSome, refl, sym, ap, subst, ◌∙◌, arith, append_assoc, append-nil, length-append, ne_eqb}
+use Rattle.std.proofs.lemmas.List.Elements.{All-append, All-head, All-tail}
 use Rattle.std.specs.declared.option.Option.{Option}
 use Rattle.std.specs.Io.KnownBytes.{Consumes, IsAtEnd, Keeps}
 use Rattle.line_service.specs.Lines.{AreFirstLines, AreLines, ConsumesLines, lines_of, onto_first}
-use Rattle.line_service.specs.Pieces.{IsWithinLine}
+use Rattle.std.proofs.KnownBytes.{Consumes-trans}
+use Rattle.line_service.specs.Pieces.{IsWithinLine, TakesPiece, end_of}
+use Rattle.line_service.specs.declared.line.Piece.{Piece}
 
 -- a byte within a line stands before what follows
 lines_of-within : (byte : ℕ) (text : List ℕ) → byte ≢ 10 → lines_of (byte ∷ text) ≡ onto_first byte (lines_of text)
@@ -61,3 +63,26 @@ pub AreFirstLines-consumed : (a b : Option (List ℕ)) (lines : List (List ℕ))
 AreFirstLines-consumed None b lines p = tt
 AreFirstLines-consumed (Some x) None lines p = absurd p
 AreFirstLines-consumed (Some x) (Some y) lines p = (lines_of y, p)
+
+-- what is at its end after a part was read was at its end after that part
+pub end_after : (a b c : Option (List ℕ)) (bytes : List ℕ) → Consumes a b bytes → OnSome b (IsAtEnd c) → OnSome a (IsAtEnd c)
+end_after None b c bytes read end = tt
+end_after (Some x) None c bytes read end = absurd read
+end_after (Some x) (Some y) c bytes read end = end
+
+-- a line of which a front was read, and then the rest
+module _ (a b c : Option (List ℕ)) (kept new : List ℕ) (n : ℕ) (piece : Piece) (bytes : List ℕ) (within : IsWithinLine bytes) (read : Consumes a b bytes) (took : TakesPiece b c kept n new piece) where
+  within_whole : IsWithinLine (bytes ++ took.bytes)
+  within_whole = All-append (λ byte. byte ≢ 10) bytes took.bytes within took.within
+
+  read_whole : Consumes a c ((bytes ++ took.bytes) ++ end_of piece.ended)
+  read_whole = subst (Consumes a c) (sym (append_assoc bytes took.bytes (end_of piece.ended))) (Consumes-trans a b c bytes (took.bytes ++ end_of piece.ended) read took.read)
+
+  pub ConsumesLines-rest : piece.ended ≡ true → ConsumesLines a c ((bytes ++ took.bytes) ∷ [])
+  ConsumesLines-rest ended = ConsumesLines-ended a c (bytes ++ took.bytes) within_whole (subst (λ e. Consumes a c ((bytes ++ took.bytes) ++ end_of e)) ended read_whole)
+
+  pub ConsumesLines-rest_at_end : piece.ended ≡ false → 0 < length bytes → OnSome b (IsAtEnd c) → ConsumesLines a c ((bytes ++ took.bytes) ∷ [])
+  ConsumesLines-rest_at_end ended some end =
+      let long : 0 < length (bytes ++ took.bytes) = omega (arith, length-append bytes took.bytes) in
+      let all = subst (λ e. Consumes a c ((bytes ++ took.bytes) ++ end_of e)) ended read_whole in
+      ConsumesLines-last a c (bytes ++ took.bytes) long within_whole (subst (Consumes a c) (append-nil (bytes ++ took.bytes)) all) (end_after a b c bytes read end)

@@ -3,7 +3,7 @@ use Rattle.std.proofs.Common.{◌≡◌, ℕ, suc, ◌+◌, List, [], ◌∷◌,
 use Rattle.std.specs.declared.option.Option.{Option}
 use Rattle.std.specs.Io.KnownBytes.{Appends}
 use Rattle.std.proofs.KnownBytes.{Appends-trans}
-use Rattle.line_service.specs.Page.{page, state_after, Serves, ServesInPart}
+use Rattle.line_service.specs.Page.{page, state_after, Answers, Serves, ServesInPart}
 
 module _ {State : Type 0} (longest : ℕ) (shown : State → ℕ → List ℕ → List ℕ) (next : State → List ℕ → State) where
   pub state_after-append : (s : State) (xs ys : List (List ℕ))
@@ -21,3 +21,9 @@ module _ {State : Type 0} (longest : ℕ) (shown : State → ℕ → List ℕ �
       ap (λ l. shown s n (take longest x) ++ l)
       (page-append t (n + 1) xs ys ∙ ap (λ k. page longest shown next t (n + 1) xs ++ page longest shown next (state_after longest shown next t xs) k ys) same)
       ∙ sym (append_assoc (shown s n (take longest x)) _ _)
+
+  -- a line that is handed over cut
+  pub Answers-cut : (s t u : State) (number : ℕ) (line cut printed : List ℕ) → t ≡ s → cut ≡ take longest line → u ≡ next t cut → printed ≡ shown t number cut
+      → Answers longest shown next s u number line printed
+  Answers-cut s t u number line cut printed same is state answer =
+      record { state = state ∙ ap (λ l. next t l) is ∙ ap (λ r. next r (take longest line)) same; answer = answer ∙ ap (λ l. shown t number l) is ∙ ap (λ r. shown r number (take longest line)) same }

@@ -1,3 +1,4 @@
 pub mod Lines
 pub mod Page
 pub mod Pieces
+pub mod Steps

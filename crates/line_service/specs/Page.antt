@@ -14,16 +14,21 @@ module _ {State : Type 0} (longest : ℕ) (shown : State → ℕ → List ℕ �
   state_after state [] = state
   state_after state (line ∷ lines) = state_after (next state (take longest line)) lines
 
-  -- lines under the numbers from this one on were answered: their page is written, and the state is the one after them
+  -- a line was answered under a number, and its answer is not yet written
+  pub record Answers (before after : State) (number : ℕ) (line printed : List ℕ) : Type 0 where
+    pub state : after ≡ next before (take longest line)
+    pub answer : printed ≡ shown before number (take longest line)
+
+  -- lines were answered under the numbers from this one on, and their page is written
   pub record Serves (before after : State) (number : ℕ) (lines : List (List ℕ)) (contents written : Option (List ℕ)) : Type 0 where
     pub state : after ≡ state_after before lines
-    pub page : Appends contents written (page before number lines)
+    pub pages : Appends contents written (page before number lines)
 
-  -- so were lines, and perhaps one more, of whose answer a front is written and the rest is lost
+  -- so were lines, and then perhaps one more, of whose answer a front is written and the rest is lost
   pub record ServesInPart (before after : State) (number : ℕ) (lines broken : List (List ℕ)) (contents written : Option (List ℕ)) : Type 0 where
     pub one : length broken ≤ 1
     pub state : after ≡ state_after before (lines ++ broken)
     pub front : List ℕ
     pub lost : List ℕ
     pub answer : page (state_after before lines) (number + length lines) broken ≡ front ++ lost
-    pub page : Appends contents written (page before number lines ++ front)
+    pub pages : Appends contents written (page before number lines ++ front)

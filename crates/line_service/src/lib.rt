@@ -4,4 +4,5 @@
 pub mod error;
 mod line;
 mod output;
+pub mod serve;
 pub mod service;
