@@ -1,7 +1,9 @@
 -- A line that comes in pieces, and what is kept of it.
 use Rattle.std.specs.Prelude.{◌≡◌, ◌≢◌, ℕ, ◌≤◌, Bool, true, false, List, [], ◌∷◌, ◌++◌, All, length, take, ⊤}
 use Rattle.std.specs.declared.option.Option.{Option}
-use Rattle.std.specs.Io.KnownBytes.{Consumes}
+use Rattle.std.specs.Io.KnownBytes.{Appends, Consumes}
+use Rattle.line_service.specs.declared.error.ServeError.{ServeError}
+use Rattle.line_service.specs.declared.error.ServeError.TheVariants.{Reading, Writing, TooManyLines}
 use Rattle.line_service.specs.declared.line.Piece.{Piece}
 
 -- no byte of these ends a line
@@ -29,3 +31,9 @@ pub record TakesPiece (known rest : Option (List ℕ)) (kept : List ℕ) (n : �
   pub within : IsWithinLine bytes
   pub read : Consumes known rest (bytes ++ end_of piece.ended)
   pub held : HoldsMore kept n new piece.len bytes
+
+-- what an error of writing leaves: a front of the bytes is written, and the rest is lost
+abbrev pub WritesFront : Option (List ℕ) → Option (List ℕ) → List ℕ → ServeError → Type 0
+WritesFront contents written bytes (Reading _) = ⊥
+WritesFront contents written bytes (Writing _) = (front : List ℕ) × (lost : List ℕ) × (bytes ≡ front ++ lost) × Appends contents written front
+WritesFront contents written bytes TooManyLines = ⊥

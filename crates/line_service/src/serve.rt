@@ -8,7 +8,7 @@ ghost use Rattle.line_service.specs.declared.error.ServeError.TheVariants.{TooMa
 
 use crate::error::ServeError;
 use crate::line::{finish_line, keep, line_end};
-use crate::output::{wait_for_more, write_whole};
+use crate::output::{flush, ready, wait_for_more, write_whole};
 use crate::service::{LineService, ROOM};
 use std::io;
 use std::io::{BufRead, Write};
@@ -108,6 +108,43 @@ fn answer_next<S: LineService, R: BufRead, W: Write>(
             } else {
                 Ok(Next::LastLine)
             }
+        }
+    }
+}
+
+/// Answers the next line, if there is one, and writes the answer.
+fn serve_next<S: LineService, R: BufRead, W: Write>(
+    service: &mut S,
+    input: &mut R,
+    output: &mut W,
+    number: u64,
+    kept: &mut [u8],
+    used_up: bool,
+) -> Result<Step, ServeError>
+    requires { number ≤ S.LAST }
+    ensures room { length kept.new ≡ length kept.old }
+    ensures served { IfOk result (ServesNext (length kept.old) S.shown S.next (S.state service.old) (S.state service.new) number
+        (R.remaining input.old) (R.remaining input.new) (W.contents output.old) (W.contents output.new)) }
+    ensures stopped { IfErr result (StopsEarly (length kept.old) S.shown S.next (S.state service.old) (S.state service.new) number
+        (R.remaining input.old) (W.contents output.old) (W.contents output.new)) }
+    ensures kept { S.kept service.old service.new }
+{
+    if !ready(input, output, used_up)? {
+        return Ok(Step::Done);
+    }
+    match answer_next(service, input, output, number, kept)? {
+        Next::Line(used_up) => {
+            write_whole(output, service.printed())?;
+            Ok(Step::More(used_up))
+        }
+        Next::LastLine => {
+            write_whole(output, service.printed())?;
+            flush(output)?;
+            Ok(Step::Done)
+        }
+        Next::NoLine => {
+            flush(output)?;
+            Ok(Step::Done)
         }
     }
 }
