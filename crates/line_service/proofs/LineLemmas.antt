@@ -86,3 +86,7 @@ module _ (a b c : Option (List ℕ)) (kept new : List ℕ) (n : ℕ) (piece : Pi
       let long : 0 < length (bytes ++ took.bytes) = omega (arith, length-append bytes took.bytes) in
       let all = subst (λ e. Consumes a c ((bytes ++ took.bytes) ++ end_of e)) ended read_whole in
       ConsumesLines-last a c (bytes ++ took.bytes) long within_whole (subst (Consumes a c) (append-nil (bytes ++ took.bytes)) all) (end_after a b c bytes read end)
+
+pub AreFirstLines-nil : (known : Option (List ℕ)) → AreFirstLines known []
+AreFirstLines-nil None = tt
+AreFirstLines-nil (Some text) = (lines_of text, refl)

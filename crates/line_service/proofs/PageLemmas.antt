@@ -1,5 +1,5 @@
 -- Lemmas on a page, one part after the other.
-use Rattle.std.proofs.Common.{◌≡◌, ◌≢◌, ℕ, suc, ◌+◌, List, [], ◌∷◌, ◌++◌, length, refl, sym, ap, subst, ◌∙◌, arith, append_assoc, append-nil, length-append, le_refl, zero-le, take}
+use Rattle.std.proofs.Common.{◌≡◌, ◌≢◌, ℕ, suc, ◌+◌, Result, Err, List, [], ◌∷◌, ◌++◌, length, refl, sym, ap, subst, ◌∙◌, arith, append_assoc, append-nil, length-append, le_refl, zero-le, take}
 use Rattle.std.specs.declared.option.Option.{Option}
 use Rattle.std.specs.Io.KnownBytes.{Appends, Keeps}
 use Rattle.std.proofs.KnownBytes.{Appends-kept, Appends-nil, Appends-trans}
@@ -132,3 +132,7 @@ module _ {State : Type 0} (longest : ℕ) (shown : State → ℕ → List ℕ �
     ServesInPart-after s t u n m xs q.0 q.1 a b c is p q.3,
   )
   StopsEarly-after s t u n m known rest a b c xs TooManyLines is read p q = absurd q
+
+-- an error is no other than its result says
+pub other_error : {T : Type 0} (r : Result T ServeError) (e d : ServeError) → r ≢ Err d → r ≡ Err e → e ≢ d
+other_error r e d other is same = other (is ∙ ap Err same)
