@@ -1,9 +1,9 @@
 -- Lemmas on the lines of a text.
-use Rattle.std.proofs.Common.{◌≡◌, ◌≢◌, ℕ, ◌<◌, cond, true, false, List, [], ◌∷◌, ◌++◌, length, None, Some, OnSome, refl, sym, ap, subst, ◌∙◌, arith, append_assoc, append-nil, length-append, ne_eqb}
+use Rattle.std.proofs.Common.{◌≡◌, ◌≢◌, ℕ, ◌<◌, Bool, eqb, cond, true, false, List, [], ◌∷◌, ◌++◌, length, None, Some, IfSome, OnSome, refl, sym, ap, subst, ◌∙◌, arith, append_assoc, append-nil, length-append, ne_eqb}
 use Rattle.std.proofs.lemmas.List.Elements.{All-append, All-head, All-tail}
 use Rattle.std.specs.declared.option.Option.{Option}
 use Rattle.std.specs.Io.KnownBytes.{Consumes, IsAtEnd, Keeps}
-use Rattle.line_service.specs.Lines.{AreFirstLines, AreLines, ConsumesLines, lines_of, onto_first}
+use Rattle.line_service.specs.Lines.{AreFirstLines, AreLines, ConsumesLines, HasMoreLines, lines_of, onto_first}
 use Rattle.std.proofs.KnownBytes.{Consumes-trans}
 use Rattle.line_service.specs.Pieces.{IsWithinLine, TakesPiece, end_of}
 use Rattle.line_service.specs.declared.line.Piece.{Piece}
@@ -90,3 +90,26 @@ module _ (a b c : Option (List ℕ)) (kept new : List ℕ) (n : ℕ) (piece : Pi
 pub AreFirstLines-nil : (known : Option (List ℕ)) → AreFirstLines known []
 AreFirstLines-nil None = tt
 AreFirstLines-nil (Some text) = (lines_of text, refl)
+
+-- bytes have a line
+pub lines_of-some : (text : List ℕ) → 0 < length text → 0 < length (lines_of text)
+lines_of-some [] some = some
+lines_of-some (x ∷ xs) some = at (eqb x 10) (lines_of xs)
+  where
+    at : (b : Bool) (lines : List (List ℕ)) → 0 < length (cond b ([] ∷ lines) (onto_first x lines))
+    at true lines = omega arith
+    at false [] = omega arith
+    at false (line ∷ lines) = omega arith
+
+-- more came after n lines
+pub HasMoreLines-after : (a b : Option (List ℕ)) (lines : List (List ℕ)) (n : ℕ) → ConsumesLines a b lines → length lines ≡ n → IfSome b (λ text. 0 < length text) → HasMoreLines a n
+HasMoreLines-after None b lines n read count more = tt
+HasMoreLines-after (Some x) None lines n read count more = absurd read
+HasMoreLines-after (Some x) (Some y) lines n read count more =
+    omega (arith, ap length read, length-append lines (lines_of y), lines_of-some y more)
+
+-- what is at its end after lines were read was at its end after them
+pub lines_end : (a b c : Option (List ℕ)) (lines : List (List ℕ)) → ConsumesLines a b lines → OnSome b (IsAtEnd c) → OnSome a (IsAtEnd c)
+lines_end None b c lines read end = tt
+lines_end (Some x) None c lines read end = absurd read
+lines_end (Some x) (Some y) c lines read end = end

@@ -6,7 +6,7 @@ use Rattle.std.proofs.KnownBytes.{Appends-kept, Appends-nil, Appends-trans}
 use Rattle.line_service.specs.Lines.{AreFirstLines, ConsumesLines}
 use Rattle.line_service.specs.Page.{page, state_after, Answers, Serves, ServesInPart}
 use Rattle.line_service.specs.Pieces.{WritesFront}
-use Rattle.line_service.specs.Steps.{StopsEarly}
+use Rattle.line_service.specs.Stops.{Stops, StopsEarly}
 use Rattle.line_service.specs.declared.error.ServeError.{ServeError}
 use Rattle.line_service.specs.declared.error.ServeError.TheVariants.{Reading, Writing, TooManyLines}
 use Rattle.line_service.proofs.LineLemmas.{AreFirstLines-more}
@@ -132,6 +132,11 @@ module _ {State : Type 0} (longest : ℕ) (shown : State → ℕ → List ℕ �
     ServesInPart-after s t u n m xs q.0 q.1 a b c is p q.3,
   )
   StopsEarly-after s t u n m known rest a b c xs TooManyLines is read p q = absurd q
+
+  pub Stops-early : (last : ℕ) (s t : State) (known rest a b : Option (List ℕ)) (e : ServeError) → StopsEarly longest shown next s t 1 known a b e → Stops longest shown next last s t known rest a b e
+  Stops-early last s t known rest a b (Reading e) p = p
+  Stops-early last s t known rest a b (Writing e) p = p
+  Stops-early last s t known rest a b TooManyLines p = absurd p
 
 -- an error is no other than its result says
 pub other_error : {T : Type 0} (r : Result T ServeError) (e d : ServeError) → r ≢ Err d → r ≡ Err e → e ≢ d

@@ -1,5 +1,5 @@
 -- The lines of a text, and those of a reader whose bytes are known.
-use Rattle.std.specs.Prelude.{◌≡◌, ℕ, List, [], ◌∷◌, ◌++◌, ◌==◌, if◌then◌else◌, IfSome, ⊤, None, Some}
+use Rattle.std.specs.Prelude.{◌≡◌, ℕ, ◌<◌, length, List, [], ◌∷◌, ◌++◌, ◌==◌, if◌then◌else◌, IfSome, ⊤, None, Some}
 use Rattle.std.specs.declared.option.Option.{Option}
 
 -- a byte before the first of the lines, or a line of its own where there is none
@@ -25,3 +25,7 @@ abbrev pub ConsumesLines : Option (List ℕ) → Option (List ℕ) → List (Lis
 ConsumesLines None new lines = ⊤
 ConsumesLines (Some text) None lines = ⊥
 ConsumesLines (Some text) (Some rest) lines = lines_of text ≡ lines ++ lines_of rest
+
+-- where the bytes that a reader has left are known, they have more than n lines
+abbrev pub HasMoreLines : Option (List ℕ) → ℕ → Type 0
+HasMoreLines known n = IfSome known (λ text. n < length (lines_of text))

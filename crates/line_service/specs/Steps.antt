@@ -1,12 +1,10 @@
 -- What each step comes to: a line begun, answered, and written.
-use Rattle.std.specs.Prelude.{◌≡◌, ℕ, ◌<◌, ◌≤◌, List, [], ◌∷◌, ◌++◌, OnSome, length}
+use Rattle.std.specs.Prelude.{◌≡◌, ℕ, ◌<◌, ◌≤◌, List, [], ◌∷◌, OnSome, length}
 use Rattle.std.specs.declared.option.Option.{Option}
 use Rattle.std.specs.Io.KnownBytes.{Consumes, IsAtEnd, Keeps}
-use Rattle.line_service.specs.Lines.{AreFirstLines, ConsumesLines}
-use Rattle.line_service.specs.Page.{Answers, Serves, ServesInPart}
+use Rattle.line_service.specs.Lines.{ConsumesLines}
+use Rattle.line_service.specs.Page.{Answers, Serves}
 use Rattle.line_service.specs.Pieces.{Holds, IsWithinLine}
-use Rattle.line_service.specs.declared.error.ServeError.{ServeError}
-use Rattle.line_service.specs.declared.error.ServeError.TheVariants.{Reading, Writing, TooManyLines}
 use Rattle.line_service.specs.declared.serve.Begun.{Begun}
 use Rattle.line_service.specs.declared.serve.Begun.TheVariants.{Whole, Part, Nothing}
 use Rattle.line_service.specs.declared.serve.Next.{Next}
@@ -60,12 +58,3 @@ module _ {State : Type 0} (longest : ℕ) (shown : State → ℕ → List ℕ �
       (line : List ℕ) × ServesLines before after number known rest contents written (line ∷ [])
   ServesNext before after number known rest contents written Done =
       (lines : List (List ℕ)) × (length lines ≤ 1) × OnSome known (IsAtEnd rest) × ServesLines before after number known rest contents written lines
-
-  -- what an error of reading or of writing leaves
-  abbrev pub StopsEarly : State → State → ℕ → Option (List ℕ) → Option (List ℕ) → Option (List ℕ) → ServeError → Type 0
-  StopsEarly before after number known contents written (Reading _) =
-      (lines : List (List ℕ)) × AreFirstLines known lines × Serves longest shown next before after number lines contents written
-  StopsEarly before after number known contents written (Writing _) =
-      (lines : List (List ℕ)) × (broken : List (List ℕ)) × AreFirstLines known (lines ++ broken)
-      × ServesInPart longest shown next before after number lines broken contents written
-  StopsEarly before after number known contents written TooManyLines = ⊥

@@ -3,7 +3,8 @@ ghost use Rattle.std.specs.Prelude.{◌≡◌, ◌≢◌, ◌++◌, ◌∷◌, [
 ghost use Rattle.std.specs.Io.KnownBytes.{IsAtEnd, Keeps};
 ghost use Rattle.line_service.specs.Lines.{AreLines, AreFirstLines, ConsumesLines};
 ghost use Rattle.line_service.specs.Page.{Serves, ServesInPart};
-ghost use Rattle.line_service.specs.Steps.{AnswersNext, LooksAt, ServesNext, StopsEarly};
+ghost use Rattle.line_service.specs.Steps.{AnswersNext, LooksAt, ServesNext};
+ghost use Rattle.line_service.specs.Stops.{Stops, StopsEarly};
 ghost use Rattle.line_service.specs.declared.error.ServeError.TheVariants.{TooManyLines};
 
 use crate::error::ServeError;
@@ -146,5 +147,46 @@ fn serve_next<S: LineService, R: BufRead, W: Write>(
             flush(output)?;
             Ok(Step::Done)
         }
+    }
+}
+
+/// Answers the lines of the input, from number 1 on, and writes each answer before it looks at the next line.
+///
+/// A line goes up to a byte 10; what follows the last byte 10 is a line too, unless it is empty. No other byte tells
+/// anything here. Of a line no more is kept, or handed to the service, than its first `LONGEST` bytes. What is written
+/// is flushed each time before the reader may have to wait, and at the end.
+///
+/// # Errors
+/// `Reading` and `Writing` where the reader or the writer fails, and `TooManyLines` where more stands behind the line
+/// with the number `LAST`. What was read of the input beyond the lines that were answered is left open after a failure.
+pub fn serve<S: LineService, R: BufRead, W: Write>(
+    service: &mut S,
+    input: &mut R,
+    output: &mut W,
+) -> Result<(), ServeError>
+    // All of the input was read, and the page of all of its lines is written.
+    ensures ok { OnOk result ((lines : List (List ℕ)) × AreLines (R.remaining input.old) lines
+        × OnSome (R.remaining input.old) (IsAtEnd (R.remaining input.new)) × (length lines ≤ S.LAST)
+        × Serves S.LONGEST S.shown S.next (S.state service.old) (S.state service.new) 1 lines
+        (W.contents output.old) (W.contents output.new)) }
+
+    // The page of the first lines is written, at an error of writing with a front of one more answer.
+    ensures err { IfErr result (Stops S.LONGEST S.shown S.next S.LAST (S.state service.old) (S.state service.new)
+        (R.remaining input.old) (R.remaining input.new) (W.contents output.old) (W.contents output.new)) }
+    ensures kept { S.kept service.old service.new }
+{
+    let mut room = [0; ROOM];
+    let kept = &mut room[..S::LONGEST];
+    let mut used_up = true;
+    for answered in 0..S::LAST {
+        match serve_next(service, input, output, answered + 1, kept, used_up)? {
+            Step::More(now) => used_up = now,
+            Step::Done => return Ok(()),
+        }
+    }
+    if wait_for_more(input, output)? {
+        Err(ServeError::TooManyLines)
+    } else {
+        Ok(())
     }
 }

@@ -1,8 +1,7 @@
-use Rattle.std.proofs.Common.{◌≡◌, ◌++◌, ◌+◌, ◌-◌, ◌≤◌, [], ◌∷◌, length, take, arith, ap, sym, subst, refl, append-nil, le_refl, take_all, ◌∙◌}
+use Rattle.std.proofs.Common.{◌+◌, length, take, arith, sym, subst, append-nil, le_refl, take_all, ◌∙◌}
 use Rattle.std.specs.Io.BufRead.{FillKeeps}
 use Rattle.std.specs.Io.KnownBytes.{Consumes}
 use Rattle.std.proofs.BufReadLemmas.{Consumes_shown}
-use Rattle.line_service.specs.Pieces.{HoldsMore}
 use Rattle.line_service.proofs.line.take_piece.Goals as goal
 
 pub returns-in-Some-clause-piece : goal.returns-in-Some-clause-piece

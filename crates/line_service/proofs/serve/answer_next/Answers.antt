@@ -1,4 +1,4 @@
-use Rattle.std.proofs.Common.{◌≡◌, ◌++◌, [], ◌∷◌, length, take, ap, subst, ◌∙◌}
+use Rattle.std.proofs.Common.{◌≡◌, ◌++◌, length, take, ap, subst, ◌∙◌}
 use Rattle.line_service.specs.Steps.{LooksAt}
 use Rattle.line_service.proofs.LineLemmas.{ConsumesLines-rest, ConsumesLines-rest_at_end, end_after}
 use Rattle.line_service.proofs.PageLemmas.{Answers-cut}

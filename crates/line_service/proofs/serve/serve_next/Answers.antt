@@ -1,5 +1,5 @@
-use Rattle.std.proofs.Common.{◌≡◌, ◌+◌, ◌∷◌, [], length, arith, refl, sym, subst, le_refl}
-use Rattle.std.proofs.lemmas.Result.{err_from_is_err_and, IfErr-at_err}
+use Rattle.std.proofs.Common.{◌∷◌, [], length, arith, refl, subst, le_refl}
+use Rattle.std.proofs.lemmas.Result.{err_from_is_err_and}
 use Rattle.std.proofs.KnownBytes.{Consumes-kept, Consumes-nil, Keeps-trans}
 use Rattle.std.specs.Io.KnownBytes.{Appends}
 use Rattle.line_service.specs.Pieces.{WritesFront}
