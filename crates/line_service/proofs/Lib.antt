@@ -1,0 +1,3 @@
+mod PieceLemmas
+mod LineLemmas
+mod PageLemmas
