@@ -1,2 +1,3 @@
 pub mod Led
+pub mod Serving
 pub mod Showing

@@ -4,11 +4,13 @@ use Rattle.clearing.specs.Centre.{Lines, Own}
 use Rattle.dealing.specs.declared.call.Call.{Call}
 use Rattle.dealing.specs.declared.refusal.Refusal.{Refusal}
 use Rattle.desk.specs.Desk.{page_line}
+use Rattle.market.specs.BookState.{state_of}
 use Rattle.market.specs.Calls.{Done, answer, done}
 use Rattle.market.specs.Law.{Keeps, LedTo, events_of}
 use Rattle.market.specs.Rule.{Rule}
 use Rattle.market.specs.Run.{new_day, run}
 use Rattle.market.specs.State.{State}
+use Rattle.market.specs.declared.market.Market.{Market}
 use Rattle.page.specs.Command.{read_command}
 use Rattle.page.specs.Printed.{printed}
 
@@ -58,3 +60,7 @@ IsLed L₀ calls d = LedTo d.rule d.own L₀ calls d.state d.lines × Keeps d.ru
 -- whatever calls led to the desk, they and those of any lines lead to the desk after these lines, and the law holds there
 abbrev pub LinesKeepTheLaw : DeskState → Type 0
 LinesKeepTheLaw d = (L₀ : Lines) (calls : List Call) → LedTo d.rule d.own L₀ calls d.state d.lines → (lines : List (List ℕ)) → IsLed L₀ (calls ++ calls_of lines) (after_all d lines)
+
+-- the desk of a market, the rule and the centre being seen through these
+abbrev pub desk_of : {R C : Type 0} → (R → Rule) → (C → Own) → (C → Lines) → List (List ℕ) → Market R C → DeskState
+desk_of rule own lines ps m = record { rule = rule m.book.rule.rule; own = own m.centre; state = state_of m.book; lines = lines m.centre; phrases = ps }
