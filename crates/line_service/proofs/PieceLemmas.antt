@@ -1,7 +1,6 @@
 -- Lemmas on what is kept of a line that comes in pieces.
-use Rattle.std.proofs.Common.{◌≡◌, ◌≢◌, ℕ, zero, suc, ◌+◌, ◌-◌, ◌≤◌, min, List, [], ◌∷◌, ◌++◌, length, take, sym, ap, subst, ◌∙◌, append_assoc, inl, inr, arith, length-take}
-use Rattle.std.proofs.lemmas.List.{take_all, take_min, take-take}
-use Rattle.std.proofs.lemmas.Bool.{cases_lt}
+use Rattle.std.proofs.Common.{◌≡◌, ◌≢◌, ℕ, zero, suc, ◌+◌, ◌-◌, ◌≤◌, min, List, [], ◌∷◌, ◌++◌, length, take, sym, ap, subst, ◌∙◌, append_assoc, arith, length-take}
+use Rattle.std.proofs.lemmas.List.{take_min}
 use Rattle.std.proofs.lemmas.List.Elements.{All-append}
 use Rattle.std.specs.declared.option.Option.{Option}
 use Rattle.std.specs.Io.KnownBytes.{Consumes}
@@ -46,15 +45,3 @@ TakesPiece-more a b c first kept new n m piece bytes within read held took =
       read = subst (Consumes a c) (sym (append_assoc bytes took.bytes (end_of piece.ended))) (Consumes-trans a b c bytes (took.bytes ++ end_of piece.ended) read took.read);
       held = λ line was. subst (Holds new piece.len) (append_assoc line bytes took.bytes) (took.held (line ++ bytes) (held line was));
     }
-
--- a front of a front
-pub take_take : {X : Type 0} (k n : ℕ) (xs : List X) → take (min n k) xs ≡ take k (take n xs)
-take_take k n xs = elim (cases_lt k n) [
-  | inl below ↦
-    let short : min n k ≡ k = omega arith in
-    ap (λ m. take m xs) short ∙ sym (take-take k n xs (omega arith))
-  | inr above ↦
-    let short : min n k ≡ n = omega arith in
-    let within : length (take n xs) ≤ k = omega (arith, length-take n xs) in
-    ap (λ m. take m xs) short ∙ sym (take_all k (take n xs) within)
-]

@@ -6,3 +6,6 @@ mod line;
 mod output;
 pub mod serve;
 pub mod service;
+
+#[cfg(test)]
+mod tests;

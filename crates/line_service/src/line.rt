@@ -30,6 +30,13 @@ pub(crate) fn line_end(bytes: &[u8]) -> Option<usize>
     memchr(b'\n', bytes)
 }
 
+/// What a service sees of a line: no more than so many bytes of it.
+pub(crate) fn cut(line: &[u8], longest: usize) -> &[u8]
+    ensures { result.now ≡ take longest line.now }
+{
+    &line[..longest.min(line.len())]
+}
+
 /// Keeps of the bytes what has room behind the `len` that are kept. Returns how many are then kept.
 pub(crate) fn keep(kept: &mut [u8], len: usize, bytes: &[u8]) -> usize
     requires { len ≤ length kept.old }

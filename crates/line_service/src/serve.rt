@@ -8,7 +8,7 @@ ghost use Rattle.line_service.specs.Stops.{Stops, StopsEarly};
 ghost use Rattle.line_service.specs.declared.error.ServeError.TheVariants.{TooManyLines};
 
 use crate::error::ServeError;
-use crate::line::{finish_line, keep, line_end};
+use crate::line::{cut, finish_line, keep, line_end};
 use crate::output::{flush, ready, wait_for_more, write_whole};
 use crate::service::{LineService, ROOM};
 use std::io;
@@ -63,7 +63,7 @@ fn look<S: LineService, R: BufRead>(
     match line_end(buffer) {
         Some(end) => {
             let used_up = end + 1 == buffer.len();
-            service.answer(number, &buffer[..end.min(kept.len())]);
+            service.answer(number, cut(&buffer[..end], kept.len()));
             input.consume(end + 1);
             Ok(Begun::Whole(used_up))
         }

@@ -1,11 +1,10 @@
-use Rattle.std.proofs.Common.{◌≡◌, ◌+◌, [], length, take, arith, ap, sym, subst, refl, le_refl, zero-le, take_all, ◌∙◌}
+use Rattle.std.proofs.Common.{◌+◌, [], length, take, arith, sym, subst, refl, le_refl, zero-le, take_all}
 use Rattle.std.proofs.lemmas.Bool.Decides.{nat_tests}
 use Rattle.std.specs.Io.BufRead.{FillKeeps}
 use Rattle.std.specs.Io.KnownBytes.{Consumes}
 use Rattle.std.proofs.BufReadLemmas.{Consumes_shown}
 use Rattle.line_service.proofs.LineLemmas.{ConsumesLines-ended}
 use Rattle.line_service.proofs.PageLemmas.{Answers-cut}
-use Rattle.line_service.proofs.PieceLemmas.{take_take}
 use Rattle.line_service.proofs.serve.look.Goals as goal
 
 pub returns-in-Some-clause-begun : goal.returns-in-Some-clause-begun
@@ -17,11 +16,10 @@ returns-in-Some-clause-begun g c =
     let filled = subst (FillKeeps _ (g.R.Read.remaining rested) (g.R.BufRead.consumable_len rested)) c.in_ok-buffer.was c.fill_buf.follows.holds-at-none in
     let found = c.in-Some.ensures.found in
     let moved = Consumes_shown _ _ _ _ shown (end + 1) (omega (arith, found.0)) c.in_ok-buffer.ensures.front c.in_ok-buffer.ensures.end filled.0 filled.1 c.consume.ensures.bytes in
-    let cut : take c.min.result shown ≡ take longest (take end shown) = ap (λ k. take k shown) c.min.ensures ∙ take_take longest end shown in
     record {
       line = take end shown;
       read = ConsumesLines-ended _ _ (take end shown) found.1 (subst (Consumes _ _) found.2 moved.0);
-      answers = Answers-cut longest g.S.LineService.shown g.S.LineService.next _ _ _ c.args.number (take end shown) (take c.min.result shown) _ refl cut c.answer.ensures.next c.answer.ensures.shown;
+      answers = Answers-cut longest g.S.LineService.shown g.S.LineService.next _ _ _ c.args.number (take end shown) _ _ refl c.cut.ensures c.answer.ensures.next c.answer.ensures.shown;
     }
 
 pub returns-in-None-2-clause-begun : goal.returns-in-None-2-clause-begun
@@ -36,6 +34,6 @@ returns-in-None-2-clause-begun g c =
       within = c.in-None.ensures.none;
       some = grind (arith, nat_tests);
       read = subst (Consumes _ _) (take_all (length shown) shown (le_refl (length shown))) moved.0;
-      held = c.keep-len.ensures.held [] (record { within = zero-le; bytes = sym (take_all (length c.args.kept.now) [] zero-le) });
+      held = c.keep-len.ensures.held [] (record { within = omega arith; bytes = sym (take_all (length c.args.kept.now) [] zero-le) });
       state = refl;
     }
