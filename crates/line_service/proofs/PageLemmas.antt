@@ -11,59 +11,63 @@ use Rattle.line_service.specs.declared.error.ServeError.{ServeError}
 use Rattle.line_service.specs.declared.error.ServeError.TheVariants.{Reading, Writing, TooManyLines}
 use Rattle.line_service.proofs.LineLemmas.{AreFirstLines-more}
 
-module _ {State : Type 0} (longest : ℕ) (shown : State → ℕ → List ℕ → List ℕ) (next : State → List ℕ → State) where
+module _ {State : Type 0} (shown : State → ℕ → List ℕ → List ℕ) (next : State → List ℕ → State) where
   pub state_after-append : (s : State) (xs ys : List (List ℕ))
-      → state_after longest shown next s (xs ++ ys) ≡ state_after longest shown next (state_after longest shown next s xs) ys
+      → state_after shown next s (xs ++ ys) ≡ state_after shown next (state_after shown next s xs) ys
   state_after-append s [] ys = refl
-  state_after-append s (x ∷ xs) ys = state_after-append (next s (take longest x)) xs ys
+  state_after-append s (x ∷ xs) ys = state_after-append (next s x) xs ys
 
   pub page-append : (s : State) (n : ℕ) (xs ys : List (List ℕ))
-      → page longest shown next s n (xs ++ ys) ≡ page longest shown next s n xs ++ page longest shown next (state_after longest shown next s xs) (n + length xs) ys
+      → page shown next s n (xs ++ ys) ≡ page shown next s n xs ++ page shown next (state_after shown next s xs) (n + length xs) ys
   page-append s n [] ys =
-      let same : n ≡ n + 0 = omega arith in ap (λ k. page longest shown next s k ys) same
+      let same : n ≡ n + 0 = omega arith in ap (λ k. page shown next s k ys) same
   page-append s n (x ∷ xs) ys =
-      let t = next s (take longest x) in
+      let t = next s x in
       let same : n + 1 + length xs ≡ n + suc (length xs) = omega arith in
-      ap (λ l. shown s n (take longest x) ++ l)
-      (page-append t (n + 1) xs ys ∙ ap (λ k. page longest shown next t (n + 1) xs ++ page longest shown next (state_after longest shown next t xs) k ys) same)
-      ∙ sym (append_assoc (shown s n (take longest x)) _ _)
+      ap (λ l. shown s n x ++ l)
+      (page-append t (n + 1) xs ys ∙ ap (λ k. page shown next t (n + 1) xs ++ page shown next (state_after shown next t xs) k ys) same)
+      ∙ sym (append_assoc (shown s n x) _ _)
 
   -- a line that is handed over cut
-  pub Answers-cut : (s t u : State) (number : ℕ) (line cut printed : List ℕ) → t ≡ s → cut ≡ take longest line → u ≡ next t cut → printed ≡ shown t number cut
-      → Answers longest shown next s u number line printed
-  Answers-cut s t u number line cut printed same is state answer =
-      record { state = state ∙ ap (λ l. next t l) is ∙ ap (λ r. next r (take longest line)) same; answer = answer ∙ ap (λ l. shown t number l) is ∙ ap (λ r. shown r number (take longest line)) same }
+  pub Answers-cut : (longest : ℕ) → ((s : State) (n : ℕ) (l : List ℕ) → shown s n (take longest l) ≡ shown s n l) → ((s : State) (l : List ℕ) → next s (take longest l) ≡ next s l)
+      → (s t u : State) (number : ℕ) (line cut printed : List ℕ) → t ≡ s → cut ≡ take longest line → u ≡ next t cut → printed ≡ shown t number cut
+      → Answers shown next s u number line printed
+  Answers-cut longest looks_shown looks_next s t u number line cut printed same is state answer =
+      record {
+        state = state ∙ ap (λ l. next t l) is ∙ looks_next t line ∙ ap (λ r. next r line) same;
+        answer = answer ∙ ap (λ l. shown t number l) is ∙ looks_shown t number line ∙ ap (λ r. shown r number line) same;
+      }
 
   -- nothing was answered
-  pub Serves-nil : (s t : State) (n : ℕ) (a b : Option (List ℕ)) → t ≡ s → Keeps a b → Serves longest shown next s t n [] a b
+  pub Serves-nil : (s t : State) (n : ℕ) (a b : Option (List ℕ)) → t ≡ s → Keeps a b → Serves shown next s t n [] a b
   Serves-nil s t n a b same kept = record { state = same; pages = Appends-kept a a b [] (Appends-nil a) kept }
 
   -- a line was answered, and its answer written
-  pub Serves-line : (s t : State) (n : ℕ) (line printed : List ℕ) (a b : Option (List ℕ)) → Answers longest shown next s t n line printed → Appends a b printed
-      → Serves longest shown next s t n (line ∷ []) a b
+  pub Serves-line : (s t : State) (n : ℕ) (line printed : List ℕ) (a b : Option (List ℕ)) → Answers shown next s t n line printed → Appends a b printed
+      → Serves shown next s t n (line ∷ []) a b
   Serves-line s t n line printed a b answers wrote =
-      record { state = answers.state; pages = subst (Appends a b) (answers.answer ∙ sym (append-nil (shown s n (take longest line)))) wrote }
+      record { state = answers.state; pages = subst (Appends a b) (answers.answer ∙ sym (append-nil (shown s n line))) wrote }
 
-  pub Serves-kept : (s t : State) (n : ℕ) (xs : List (List ℕ)) (a b c : Option (List ℕ)) → Serves longest shown next s t n xs a b → Keeps b c → Serves longest shown next s t n xs a c
+  pub Serves-kept : (s t : State) (n : ℕ) (xs : List (List ℕ)) (a b c : Option (List ℕ)) → Serves shown next s t n xs a b → Keeps b c → Serves shown next s t n xs a c
   Serves-kept s t n xs a b c p kept = record { state = p.state; pages = Appends-kept a b c _ p.pages kept }
 
   pub Serves-trans : (s t u : State) (n m : ℕ) (xs ys : List (List ℕ)) (a b c : Option (List ℕ)) → m ≡ n + length xs
-      → Serves longest shown next s t n xs a b → Serves longest shown next t u m ys b c → Serves longest shown next s u n (xs ++ ys) a c
+      → Serves shown next s t n xs a b → Serves shown next t u m ys b c → Serves shown next s u n (xs ++ ys) a c
   Serves-trans s t u n m xs ys a b c is p q =
-      let page_of = page longest shown next in
-      let then : page_of t m ys ≡ page_of (state_after longest shown next s xs) (n + length xs) ys =
-      ap (λ r. page_of r m ys) p.state ∙ ap (λ k. page_of (state_after longest shown next s xs) k ys) is in
+      let page_of = page shown next in
+      let then : page_of t m ys ≡ page_of (state_after shown next s xs) (n + length xs) ys =
+      ap (λ r. page_of r m ys) p.state ∙ ap (λ k. page_of (state_after shown next s xs) k ys) is in
       record {
-        state = q.state ∙ ap (λ r. state_after longest shown next r ys) p.state ∙ sym (state_after-append s xs ys);
+        state = q.state ∙ ap (λ r. state_after shown next r ys) p.state ∙ sym (state_after-append s xs ys);
         pages = subst (Appends a c) (ap (λ l. page_of s n xs ++ l) then ∙ sym (page-append s n xs ys)) (Appends-trans a b c _ _ p.pages q.pages);
       }
 
   -- lines were answered whole, and then some in part
   pub ServesInPart-after : (s t u : State) (n m : ℕ) (xs ys broken : List (List ℕ)) (a b c : Option (List ℕ)) → m ≡ n + length xs
-      → Serves longest shown next s t n xs a b → ServesInPart longest shown next t u m ys broken b c → ServesInPart longest shown next s u n (xs ++ ys) broken a c
+      → Serves shown next s t n xs a b → ServesInPart shown next t u m ys broken b c → ServesInPart shown next s u n (xs ++ ys) broken a c
   ServesInPart-after s t u n m xs ys broken a b c is p q =
-      let page_of = page longest shown next in
-      let after = state_after longest shown next in
+      let page_of = page shown next in
+      let after = state_after shown next in
       let then : page_of t m ys ≡ page_of (after s xs) (n + length xs) ys =
       ap (λ r. page_of r m ys) p.state ∙ ap (λ k. page_of (after s xs) k ys) is in
       let place : n + length (xs ++ ys) ≡ m + length ys = omega (arith, length-append xs ys) in
@@ -75,15 +79,15 @@ module _ {State : Type 0} (longest : ℕ) (shown : State → ℕ → List ℕ �
         lost = q.lost;
         answer = ap (λ r. page_of r (n + length (xs ++ ys)) broken) there ∙ ap (λ k. page_of (after t ys) k broken) place ∙ q.answer;
         pages = subst (Appends a c)
-          (ap (λ l. page_of s n xs ++ (l ++ q.front)) then ∙ sym (append_assoc (page_of s n xs) (page_of (after s xs) (n + length xs) ys) q.front) ∙ ap (λ l. l ++ q.front) (sym (page-append s n xs ys)))
-          (Appends-trans a b c _ _ p.pages q.pages);
+            (ap (λ l. page_of s n xs ++ (l ++ q.front)) then ∙ sym (append_assoc (page_of s n xs) (page_of (after s xs) (n + length xs) ys) q.front) ∙ ap (λ l. l ++ q.front) (sym (page-append s n xs ys)))
+            (Appends-trans a b c _ _ p.pages q.pages);
       }
 
-  pub ServesInPart-whole : (s t : State) (n : ℕ) (xs : List (List ℕ)) (a b : Option (List ℕ)) → Serves longest shown next s t n xs a b → ServesInPart longest shown next s t n xs [] a b
+  pub ServesInPart-whole : (s t : State) (n : ℕ) (xs : List (List ℕ)) (a b : Option (List ℕ)) → Serves shown next s t n xs a b → ServesInPart shown next s t n xs [] a b
   ServesInPart-whole s t n xs a b p =
       record {
         one = zero-le;
-        state = p.state ∙ ap (state_after longest shown next s) (sym (append-nil xs));
+        state = p.state ∙ ap (state_after shown next s) (sym (append-nil xs));
         front = [];
         lost = [];
         answer = refl;
@@ -91,8 +95,8 @@ module _ {State : Type 0} (longest : ℕ) (shown : State → ℕ → List ℕ �
       }
 
   -- a front of the answer to a line was written
-  pub ServesInPart-line : (s t : State) (n : ℕ) (line printed front lost : List ℕ) (a b : Option (List ℕ)) → Answers longest shown next s t n line printed → printed ≡ front ++ lost
-      → Appends a b front → ServesInPart longest shown next s t n [] (line ∷ []) a b
+  pub ServesInPart-line : (s t : State) (n : ℕ) (line printed front lost : List ℕ) (a b : Option (List ℕ)) → Answers shown next s t n line printed → printed ≡ front ++ lost
+      → Appends a b front → ServesInPart shown next s t n [] (line ∷ []) a b
   ServesInPart-line s t n line printed front lost a b answers parts wrote =
       let place : n + 0 ≡ n = omega arith in
       record {
@@ -100,13 +104,13 @@ module _ {State : Type 0} (longest : ℕ) (shown : State → ℕ → List ℕ �
         state = answers.state;
         front = front;
         lost = lost;
-        answer = append-nil _ ∙ ap (λ k. shown s k (take longest line)) place ∙ sym answers.answer ∙ parts;
+        answer = append-nil _ ∙ ap (λ k. shown s k line) place ∙ sym answers.answer ∙ parts;
         pages = wrote;
       }
 
   -- an error leaves lines that were answered whole
   pub StopsEarly-whole : (s t : State) (n : ℕ) (known a b : Option (List ℕ)) (lines : List (List ℕ)) (e : ServeError) → e ≢ TooManyLines → AreFirstLines known lines
-      → Serves longest shown next s t n lines a b → StopsEarly longest shown next s t n known a b e
+      → Serves shown next s t n lines a b → StopsEarly shown next s t n known a b e
   StopsEarly-whole s t n known a b lines (Reading e) other first p = (lines, first, p)
   StopsEarly-whole s t n known a b lines (Writing e) other first p =
       (lines, [], subst (AreFirstLines known) (sym (append-nil lines)) first, ServesInPart-whole s t n lines a b p)
@@ -114,7 +118,7 @@ module _ {State : Type 0} (longest : ℕ) (shown : State → ℕ → List ℕ �
 
   -- an error of writing the answer to a line
   pub StopsEarly-line : (s t : State) (n : ℕ) (known a b : Option (List ℕ)) (line printed : List ℕ) (e : ServeError) → AreFirstLines known (line ∷ [])
-      → Answers longest shown next s t n line printed → WritesFront a b printed e → StopsEarly longest shown next s t n known a b e
+      → Answers shown next s t n line printed → WritesFront a b printed e → StopsEarly shown next s t n known a b e
   StopsEarly-line s t n known a b line printed (Reading e) first answers wrote = absurd wrote
   StopsEarly-line s t n known a b line printed (Writing e) first answers wrote =
       ([], line ∷ [], first, ServesInPart-line s t n line printed wrote.0 wrote.1 a b answers wrote.2 wrote.3)
@@ -122,7 +126,7 @@ module _ {State : Type 0} (longest : ℕ) (shown : State → ℕ → List ℕ �
 
   -- an error after lines that were answered whole
   pub StopsEarly-after : (s t u : State) (n m : ℕ) (known rest a b c : Option (List ℕ)) (xs : List (List ℕ)) (e : ServeError) → m ≡ n + length xs → ConsumesLines known rest xs
-      → Serves longest shown next s t n xs a b → StopsEarly longest shown next t u m rest b c e → StopsEarly longest shown next s u n known a c e
+      → Serves shown next s t n xs a b → StopsEarly shown next t u m rest b c e → StopsEarly shown next s u n known a c e
   StopsEarly-after s t u n m known rest a b c xs (Reading e) is read p q =
       (xs ++ q.0, AreFirstLines-more known rest xs q.0 read q.1, Serves-trans s t u n m xs q.0 a b c is p q.2)
   StopsEarly-after s t u n m known rest a b c xs (Writing e) is read p q = (
@@ -133,7 +137,7 @@ module _ {State : Type 0} (longest : ℕ) (shown : State → ℕ → List ℕ �
   )
   StopsEarly-after s t u n m known rest a b c xs TooManyLines is read p q = absurd q
 
-  pub Stops-early : (last : ℕ) (s t : State) (known rest a b : Option (List ℕ)) (e : ServeError) → StopsEarly longest shown next s t 1 known a b e → Stops longest shown next last s t known rest a b e
+  pub Stops-early : (last : ℕ) (s t : State) (known rest a b : Option (List ℕ)) (e : ServeError) → StopsEarly shown next s t 1 known a b e → Stops shown next last s t known rest a b e
   Stops-early last s t known rest a b (Reading e) p = p
   Stops-early last s t known rest a b (Writing e) p = p
   Stops-early last s t known rest a b TooManyLines p = absurd p

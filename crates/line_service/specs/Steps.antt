@@ -28,12 +28,12 @@ pub record Begins {State : Type 0} (before after : State) (known rest : Option (
   pub held : Holds kept n bytes
   pub state : after ≡ before
 
-module _ {State : Type 0} (longest : ℕ) (shown : State → ℕ → List ℕ → List ℕ) (next : State → List ℕ → State) where
+module _ {State : Type 0} (shown : State → ℕ → List ℕ → List ℕ) (next : State → List ℕ → State) where
   -- a line was read whole, and answered
   pub record AnswersLine (before after : State) (number : ℕ) (known rest : Option (List ℕ)) (printed : List ℕ) : Type 0 where
     pub line : List ℕ
     pub read : ConsumesLines known rest (line ∷ [])
-    pub answers : Answers longest shown next before after number line printed
+    pub answers : Answers shown next before after number line printed
 
   -- what a look at the reader's buffer comes to
   abbrev pub LooksAt : State → State → ℕ → Option (List ℕ) → Option (List ℕ) → List ℕ → List ℕ → Begun → Type 0
@@ -50,7 +50,7 @@ module _ {State : Type 0} (longest : ℕ) (shown : State → ℕ → List ℕ �
   -- lines were read, answered under the numbers from this one on, and written
   pub record ServesLines (before after : State) (number : ℕ) (known rest contents written : Option (List ℕ)) (lines : List (List ℕ)) : Type 0 where
     pub read : ConsumesLines known rest lines
-    pub serves : Serves longest shown next before after number lines contents written
+    pub serves : Serves shown next before after number lines contents written
 
   -- what the next line comes to: it is answered, or it is the last, if there is one
   abbrev pub ServesNext : State → State → ℕ → Option (List ℕ) → Option (List ℕ) → Option (List ℕ) → Option (List ℕ) → Step → Type 0

@@ -52,9 +52,10 @@ fn look<S: LineService, R: BufRead>(
     number: u64,
     kept: &mut [u8],
 ) -> io::Result<Begun>
-    requires { number ≤ S.LAST }
+    requires number { number ≤ S.LAST }
+    requires looks { length kept.old ≡ S.LONGEST }
     ensures room { length kept.new ≡ length kept.old }
-    ensures begun { IfOk result (LooksAt (length kept.old) S.shown S.next (S.state service.old) (S.state service.new) number
+    ensures begun { IfOk result (LooksAt S.shown S.next (S.state service.old) (S.state service.new) number
         (R.remaining input.old) (R.remaining input.new) (S.printed service.new) kept.new) }
     ensures err { OnErr result (S.state service.new ≡ S.state service.old) }
     ensures kept { S.kept service.old service.new }
@@ -85,10 +86,11 @@ fn answer_next<S: LineService, R: BufRead, W: Write>(
     number: u64,
     kept: &mut [u8],
 ) -> Result<Next, ServeError>
-    requires { number ≤ S.LAST }
+    requires number { number ≤ S.LAST }
+    requires looks { length kept.old ≡ S.LONGEST }
     ensures room { length kept.new ≡ length kept.old }
     ensures shown { Keeps (W.contents output.old) (W.contents output.new) }
-    ensures next { IfOk result (AnswersNext (length kept.old) S.shown S.next (S.state service.old) (S.state service.new) number
+    ensures next { IfOk result (AnswersNext S.shown S.next (S.state service.old) (S.state service.new) number
         (R.remaining input.old) (R.remaining input.new) (S.printed service.new)) }
     ensures err { OnErr result (S.state service.new ≡ S.state service.old) }
     ensures error { result ≢ Err TooManyLines }
@@ -122,11 +124,12 @@ fn serve_next<S: LineService, R: BufRead, W: Write>(
     kept: &mut [u8],
     used_up: bool,
 ) -> Result<Step, ServeError>
-    requires { number ≤ S.LAST }
+    requires number { number ≤ S.LAST }
+    requires looks { length kept.old ≡ S.LONGEST }
     ensures room { length kept.new ≡ length kept.old }
-    ensures served { IfOk result (ServesNext (length kept.old) S.shown S.next (S.state service.old) (S.state service.new) number
+    ensures served { IfOk result (ServesNext S.shown S.next (S.state service.old) (S.state service.new) number
         (R.remaining input.old) (R.remaining input.new) (W.contents output.old) (W.contents output.new)) }
-    ensures stopped { IfErr result (StopsEarly (length kept.old) S.shown S.next (S.state service.old) (S.state service.new) number
+    ensures stopped { IfErr result (StopsEarly S.shown S.next (S.state service.old) (S.state service.new) number
         (R.remaining input.old) (W.contents output.old) (W.contents output.new)) }
     ensures kept { S.kept service.old service.new }
 {
@@ -167,11 +170,11 @@ pub fn serve<S: LineService, R: BufRead, W: Write>(
     // All of the input was read, and the page of all of its lines is written.
     ensures ok { OnOk result ((lines : List (List ℕ)) × AreLines (R.remaining input.old) lines
         × OnSome (R.remaining input.old) (IsAtEnd (R.remaining input.new)) × (length lines ≤ S.LAST)
-        × Serves S.LONGEST S.shown S.next (S.state service.old) (S.state service.new) 1 lines
+        × Serves S.shown S.next (S.state service.old) (S.state service.new) 1 lines
         (W.contents output.old) (W.contents output.new)) }
 
     // The page of the first lines is written, at an error of writing with a front of one more answer.
-    ensures err { IfErr result (Stops S.LONGEST S.shown S.next S.LAST (S.state service.old) (S.state service.new)
+    ensures err { IfErr result (Stops S.shown S.next S.LAST (S.state service.old) (S.state service.new)
         (R.remaining input.old) (R.remaining input.new) (W.contents output.old) (W.contents output.new)) }
     ensures kept { S.kept service.old service.new }
 {

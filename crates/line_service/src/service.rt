@@ -1,5 +1,5 @@
 //! What answers lines.
-ghost use Rattle.std.specs.Prelude.{◌≡◌, ◌≤◌, ℕ, List};
+ghost use Rattle.std.specs.Prelude.{◌≡◌, ◌≤◌, ℕ, List, take};
 ghost use Rattle.line_service.specs.declared.service.TheConstants.{ROOM};
 
 /// The most bytes of a line that a service can look at.
@@ -47,7 +47,14 @@ pub trait LineService {
         ensures { result.now ≡ printed self.now };
 
     ghost kept_self: { (s : Self) → kept s s };
-    ghost kept_on: { (a b c : Self) → kept a b → kept b c → kept a c };
-    ghost has_room: { LONGEST ≤ ROOM };
-}
 
+    ghost kept_on: { (a b c : Self) → kept a b → kept b c → kept a c };
+
+    ghost has_room: { LONGEST ≤ ROOM };
+
+    /// What stands past the bytes that the service looks at changes no answer.
+    ghost looks_shown: { (s : State) (number : ℕ) (line : List ℕ) → shown s number (take LONGEST line) ≡ shown s number line };
+
+    /// Nor does it change the state.
+    ghost looks_next: { (s : State) (line : List ℕ) → next s (take LONGEST line) ≡ next s line };
+}

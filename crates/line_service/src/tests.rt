@@ -1,6 +1,7 @@
 //! What no clause says: that answers are shown before a wait, and that each error ends the service.
 ghost use Rattle.std.proofs.Common.{rules};
-ghost use Rattle.std.specs.Prelude.{◌≡◌, ℕ, ◌+◌, ◌%◌, ◌∷◌, [], length, ⊤};
+ghost use Rattle.std.proofs.lemmas.List.{length-take};
+ghost use Rattle.std.specs.Prelude.{◌≡◌, ℕ, ◌+◌, ◌%◌, ◌∷◌, [], length, min, ⊤};
 
 use crate::error::ServeError;
 use crate::serve::serve;
@@ -29,10 +30,10 @@ impl LineService for Tally {
 
     ghost state = { λ tally. tally.seen };
 
-    ghost shown = { λ seen number line. (48 + number % 10) ∷ (48 + length line % 10)
-        ∷ (48 + (seen % 10 + length line % 10) % 10) ∷ 10 ∷ [] };
+    ghost shown = { λ seen number line. (48 + number % 10) ∷ (48 + min 5 (length line) % 10)
+        ∷ (48 + (seen % 10 + min 5 (length line) % 10) % 10) ∷ 10 ∷ [] };
 
-    ghost next = { λ seen line. seen % 10 + length line % 10 };
+    ghost next = { λ seen line. seen % 10 + min 5 (length line) % 10 };
 
     ghost printed = { λ tally. tally.printed };
 
@@ -47,7 +48,7 @@ impl LineService for Tally {
     const LAST: u64 = 6;
 
     fn answer(&mut self, number: u64, line: &[u8]) {
-        let length = line.len() as u64;
+        let length = line.len().min(5) as u64;
         self.seen = self.seen % 10 + length % 10;
         self.printed = [digit(number), digit(length), digit(self.seen), b'\n'];
     }
@@ -57,8 +58,14 @@ impl LineService for Tally {
     }
 
     ghost kept_self = { λ _. tt };
+
     ghost kept_on = { λ _ _ _ _ _. tt };
+
     ghost has_room = { Prim.search rules };
+
+    ghost looks_shown = { Prim.search (rules, length-take) };
+
+    ghost looks_next = { Prim.search (rules, length-take) };
 }
 
 /// What reader and writer tell of each other.
@@ -181,7 +188,10 @@ fn each_line_is_answered(rt: HostRuntime) -> Result<(), Fail> {
         (&[b"ab\ncde\n", b"f\n"], "122\n235\n316\n"),
         (&[b"a", b"b\n\nc", b"\r\n"], "122\n202\n324\n"),
         (&[b"ab", b"c"], "133\n"),
-        (&[b"abcd", b"efgh", b"ij\nk\n", b"abcdefg\nl"], "155\n216\n351\n412\n"),
+        (
+            &[b"abcd", b"efgh", b"ij\nk\n", b"abcdefg\nl"],
+            "155\n216\n351\n412\n",
+        ),
     ];
     for (pieces, page) in cases {
         let ended = run(rt.alloc(), pieces, false, 99)?;
@@ -195,18 +205,25 @@ fn each_line_is_answered(rt: HostRuntime) -> Result<(), Fail> {
 #[test]
 fn errors_end_the_service(rt: HostRuntime) -> Result<(), Fail> {
     let read = run(rt.alloc(), &[b"ab\nc", b"d"], true, 99)?;
-    assert!(rt; matches!(read.result, Err(ServeError::Reading(e)) if e.kind() == ErrorKind::BrokenPipe));
+    assert!(rt;
+        matches!(read.result, Err(ServeError::Reading(e)) if e.kind() == ErrorKind::BrokenPipe)
+    );
     assert!(rt; read.in_time);
     assert_eq!(rt; read.written.as_slice(), b"122\n".as_slice());
 
     let write = run(rt.alloc(), &[b"ab\nc\n", b"d\n"], false, 5)?;
-    assert!(rt; matches!(write.result, Err(ServeError::Writing(e)) if e.kind() == ErrorKind::StorageFull));
+    assert!(rt;
+        matches!(write.result, Err(ServeError::Writing(e)) if e.kind() == ErrorKind::StorageFull)
+    );
     assert_eq!(rt; write.written.as_slice(), b"122\n2".as_slice());
 
     let many = run(rt.alloc(), &[b"a\na\na\na\na\na\n", b"b"], false, 99)?;
     assert!(rt; matches!(many.result, Err(ServeError::TooManyLines)));
     assert!(rt; many.in_time);
-    assert_eq!(rt; many.written.as_slice(), b"111\n212\n313\n414\n515\n616\n".as_slice());
+    assert_eq!(rt;
+        many.written.as_slice(),
+        b"111\n212\n313\n414\n515\n616\n".as_slice()
+    );
 
     let last = run(rt.alloc(), &[b"a\na\na\na\na\na"], false, 99)?;
     assert!(rt; last.result.is_ok());

@@ -7,32 +7,32 @@ use Rattle.line_service.proofs.serve.answer_next.Goals as goal
 pub returns-then-line-clause-next : goal.returns-then-line-clause-next
 returns-then-line-clause-next g c =
     let longest = length c.args.kept.now in
-    let begun = subst (LooksAt longest g.S.LineService.shown g.S.LineService.next _ _ _ _ _ _ _) c.in-Part.is c.in-Ok.ensures.begun in
+    let begun = subst (LooksAt g.S.LineService.shown g.S.LineService.next _ _ _ _ _ _ _) c.in-Part.is c.in-Ok.ensures.begun in
     let took = c.in_ok-line-in-Part.ensures.piece in
     let held = took.held begun.bytes begun.held in
     let line = begun.bytes ++ took.bytes in
     let room : length c.finish_line.new.kept ≡ longest = c.finish_line.ensures.room ∙ c.look.ensures.room in
-    let cut = held.bytes ∙ ap (λ k. take k line) room in
+    let cut = held.bytes ∙ ap (λ k. take k line) (room ∙ c.requires.looks) in
     record {
       line = line;
       read = ConsumesLines-rest _ _ _ _ _ _ _ begun.bytes begun.within begun.read took c.if-line.true;
-      answers = Answers-cut longest g.S.LineService.shown g.S.LineService.next _ _ _ c.args.number line _ _ begun.state cut c.answer.ensures.next c.answer.ensures.shown;
+      answers = Answers-cut g.S.LineService.shown g.S.LineService.next g.S.LineService.LONGEST g.met.S.LineService.looks_shown g.met.S.LineService.looks_next _ _ _ c.args.number line _ _ begun.state cut c.answer.ensures.next c.answer.ensures.shown;
     }
 
 pub returns-else-line-clause-next : goal.returns-else-line-clause-next
 returns-else-line-clause-next g c =
     let longest = length c.args.kept.now in
-    let begun = subst (LooksAt longest g.S.LineService.shown g.S.LineService.next _ _ _ _ _ _ _) c.in-Part.is c.in-Ok.ensures.begun in
+    let begun = subst (LooksAt g.S.LineService.shown g.S.LineService.next _ _ _ _ _ _ _) c.in-Part.is c.in-Ok.ensures.begun in
     let took = c.in_ok-line-in-Part.ensures.piece in
     let end = c.in_ok-line-in-Part.ensures.end c.if-line.false in
     let held = took.held begun.bytes begun.held in
     let line = begun.bytes ++ took.bytes in
     let room : length c.finish_line.new.kept ≡ longest = c.finish_line.ensures.room ∙ c.look.ensures.room in
-    let cut = held.bytes ∙ ap (λ k. take k line) room in (
+    let cut = held.bytes ∙ ap (λ k. take k line) (room ∙ c.requires.looks) in (
       record {
         line = line;
         read = ConsumesLines-rest_at_end _ _ _ _ _ _ _ begun.bytes begun.within begun.read took c.if-line.false begun.some end;
-        answers = Answers-cut longest g.S.LineService.shown g.S.LineService.next _ _ _ c.args.number line _ _ begun.state cut c.answer.ensures.next c.answer.ensures.shown;
+        answers = Answers-cut g.S.LineService.shown g.S.LineService.next g.S.LineService.LONGEST g.met.S.LineService.looks_shown g.met.S.LineService.looks_next _ _ _ c.args.number line _ _ begun.state cut c.answer.ensures.next c.answer.ensures.shown;
       },
       end_after _ _ _ begun.bytes begun.read end,
     )

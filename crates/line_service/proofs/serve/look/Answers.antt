@@ -1,4 +1,4 @@
-use Rattle.std.proofs.Common.{◌+◌, [], length, take, arith, sym, subst, refl, le_refl, zero-le, take_all}
+use Rattle.std.proofs.Common.{◌∙◌, ap, ◌+◌, [], length, take, arith, sym, subst, refl, le_refl, zero-le, take_all}
 use Rattle.std.proofs.lemmas.Bool.Decides.{nat_tests}
 use Rattle.std.specs.Io.BufRead.{FillKeeps}
 use Rattle.std.specs.Io.KnownBytes.{Consumes}
@@ -11,7 +11,6 @@ pub returns-in-Some-clause-begun : goal.returns-in-Some-clause-begun
 returns-in-Some-clause-begun g c =
     let shown = c.in_ok-buffer.buffer.now in
     let end = c.in-Some.end in
-    let longest = length c.args.kept.now in
     let rested = c.fill_buf.follows.lender-at-none in
     let filled = subst (FillKeeps _ (g.R.Read.remaining rested) (g.R.BufRead.consumable_len rested)) c.in_ok-buffer.was c.fill_buf.follows.holds-at-none in
     let found = c.in-Some.ensures.found in
@@ -19,7 +18,7 @@ returns-in-Some-clause-begun g c =
     record {
       line = take end shown;
       read = ConsumesLines-ended _ _ (take end shown) found.1 (subst (Consumes _ _) found.2 moved.0);
-      answers = Answers-cut longest g.S.LineService.shown g.S.LineService.next _ _ _ c.args.number (take end shown) _ _ refl c.cut.ensures c.answer.ensures.next c.answer.ensures.shown;
+      answers = Answers-cut g.S.LineService.shown g.S.LineService.next g.S.LineService.LONGEST g.met.S.LineService.looks_shown g.met.S.LineService.looks_next _ _ _ c.args.number (take end shown) _ _ refl (c.cut.ensures ∙ ap (λ k. take k (take end shown)) c.requires.looks) c.answer.ensures.next c.answer.ensures.shown;
     }
 
 pub returns-in-None-2-clause-begun : goal.returns-in-None-2-clause-begun

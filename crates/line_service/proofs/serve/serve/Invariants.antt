@@ -11,6 +11,6 @@ invariant-loop-answered g l =
       lines : List (List ℕ);
       count : length lines ≡ l.answered;
       read : ConsumesLines (g.R.Read.remaining l.initial.input) (g.R.Read.remaining l.input) lines;
-      serves : Serves g.S.LineService.LONGEST g.S.LineService.shown g.S.LineService.next (g.S.LineService.state l.initial.service) (g.S.LineService.state l.service) 1 lines (g.W.Write.contents l.initial.output) (g.W.Write.contents l.output);
+      serves : Serves g.S.LineService.shown g.S.LineService.next (g.S.LineService.state l.initial.service) (g.S.LineService.state l.service) 1 lines (g.W.Write.contents l.initial.output) (g.W.Write.contents l.output);
       kept : g.S.LineService.kept l.initial.service l.service;
     }
