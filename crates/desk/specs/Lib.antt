@@ -1,3 +1,3 @@
+pub mod Cut
 pub mod Desk
-pub mod Input
 pub mod Served

@@ -4,6 +4,7 @@ use Rattle.clearing.specs.Centre.{Lines, Own}
 use Rattle.dealing.specs.declared.call.Call.{Call}
 use Rattle.dealing.specs.declared.refusal.Refusal.{Refusal}
 use Rattle.desk.specs.Desk.{page_line}
+use Rattle.line_service.specs.Page.{state_after}
 use Rattle.market.specs.BookState.{state_of}
 use Rattle.market.specs.Calls.{Done, answer, done}
 use Rattle.market.specs.Law.{Keeps, LedTo, events_of}
@@ -41,8 +42,7 @@ after d line = left_by d (dealt d (read_command line))
 
 -- the desk after lines
 abbrev pub after_all : DeskState → List (List ℕ) → DeskState
-after_all d [] = d
-after_all d (line ∷ lines) = after_all (after d line) lines
+after_all d lines = state_after shown after d lines
 
 -- the calls of lines, without the lines that cannot be read
 abbrev pub with_call : Result Call Refusal → List Call → List Call

@@ -3,4 +3,3 @@
 
 pub mod answer;
 pub mod desk;
-pub mod input;
