@@ -19,9 +19,9 @@ pub enum Refusal {
     LotsOutOfRange,
     /// 3: a market entry would queue its rest, or has a price other than 0.
     MarketTerms,
-    /// 4: a limited entry's price is not from low to high, in price steps, both ends allowed. Or an
-    /// opening has low above high, an end not from -999,999,999 to 999,999,999, or a deviation not
-    /// from 0 to 999,999,999.
+    /// 4: a limited price is outside the band, to which both of its ends belong. Or an opening's terms,
+    /// in price steps, are out of range: the low end is the higher one, an end is under -999,999,999
+    /// or over 999,999,999, or the deviation is negative or over 999,999,999.
     PriceOutOfBand,
     /// 5: all order numbers, 1 to 999,999, have been given.
     NumbersUsedUp,
@@ -57,8 +57,8 @@ pub enum Refusal {
     /// 20: a number field of a command is malformed, blank where a number is due, or filled where
     /// blanks are due.
     CommandNumber,
-    /// 21: a line is not what printing gives, or a reply has no phrase or a number wider than its
-    /// column (docs/PAGE.md, section 2).
+    /// 21: a line to read back was never printed so, or a reply cannot be printed: it owns no phrase, or
+    /// one of its numbers does not fit the columns (docs/PAGE.md, section 2).
     NotPrintable,
 }
 
