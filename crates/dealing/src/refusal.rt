@@ -1,57 +1,69 @@
 // Why a call is refused, in the sequence in which the conditions are judged.
 ghost use Rattle.dealing.specs.Replies.{denial, refusal_number};
-ghost use Rattle.std.specs.Prelude.{◌≡◌};
+ghost use Rattle.dealing.specs.Words.{refusal_text, refusal_words};
+ghost use Rattle.std.specs.Prelude.{◌≡◌, Some};
 
 use clearing::cause::Denial;
+use std::error::Error;
+use std::fmt;
 
+/// The first condition that held for a call, a text, a line or a command that is refused.
+///
+/// docs/FLOOR.md, section 11, states each condition in full, which calls it concerns, and the
+/// sequence in which a call's conditions are judged. What is refused changes nothing.
 #[derive(Clone, Copy, PartialEq, Eq, Debug)]
 pub enum Refusal {
-    // The market's period forbids the call.
+    /// 1: the market's period forbids the call (docs/FLOOR.md, section 10).
     WrongPeriod,
-    // An entry's lots are below 1 or above 1,000,000.
+    /// 2: an entry's lots are not 1 to 1,000,000.
     LotsOutOfRange,
-    // A market entry would queue its rest, or has a price other than 0.
+    /// 3: a market entry would queue its rest, or has a price other than 0.
     MarketTerms,
-    // A limited price is outside the band, or an opening's terms are out of range.
+    /// 4: a limited price is outside the band, to which both of its ends belong. Or an opening's terms,
+    /// in price steps, are out of range: the low end is the higher one, an end is under -999,999,999
+    /// or over 999,999,999, or the deviation is negative or over 999,999,999.
     PriceOutOfBand,
-    // Every order number has been given.
+    /// 5: all order numbers, 1 to 999,999, have been given.
     NumbersUsedUp,
-    // The account's own order would stop the walk before any trade.
+    /// 6: the account's own order would stop the walk before any trade.
     OwnOrderFirst,
-    // An entry in full or reject would not fill.
+    /// 7: an entry in full or reject would not fill.
     NotInFull,
-    // The register has too few free places for the trades.
+    /// 8: the walk would make more trades than the register, of 512 places, has room for.
     RegisterFull,
-    // A rest would join a full queue.
+    /// 9: a rest would join a queue that has its 64 orders.
     QueueFull,
-    // No resting order has the number.
+    /// 10: no resting order has the number.
     NoSuchOrder,
-    // The order is another account's.
+    /// 11: the order is another account's.
     NotYourOrder,
-    // A reduction's lots are below 1, or not fewer than the lots left.
+    /// 12: a reduction would take no lot off, or leave no lot of the order.
     ReductionOutOfRange,
-    // The centre's line of an account does not cover what the account has resting.
+    /// 13: the centre's line of an account does not cover what the account has resting.
     OutOfStep,
-    // The centre says no, for this cause.
+    /// 14: the centre says no to the entry's account, side and lots. Cause, 1 to 6, and depth, 0 to
+    /// 99, go with it (docs/CENTRE.md, section 2).
     CentreDenies(Denial),
-    // A phrase text is not 28 lines, or one of its phrases is unsound.
+    /// 15: a phrase text is not 28 lines, or one of its phrases is unsound (docs/PAGE.md, section 3).
     UnsoundText,
-    // Two phrases are equal.
+    /// 16: two phrases of a text are equal.
     SharedPhrase,
-    // A line to print into or to read back from is too short.
+    /// 17: a line to print into or to read back from has under 86 bytes.
     LineTooShort,
-    // A command line is not 37 bytes.
+    /// 18: a command line is not 37 bytes (docs/PAGE.md, section 1).
     CommandLength,
-    // A byte in the first four columns of a command is not due there.
+    /// 19: a byte in columns 1 to 4 of a command is not due there.
     CommandLetter,
-    // A number field of a command is malformed, blank where a number is due, or filled where blanks are.
+    /// 20: a number field of a command is malformed, blank where a number is due, or filled where
+    /// blanks are due.
     CommandNumber,
-    // A line is not what printing gives, or a reply cannot be printed.
+    /// 21: a line to read back was never printed so, or a reply cannot be printed: it owns no phrase, or
+    /// one of its numbers does not fit the columns (docs/PAGE.md, section 2).
     NotPrintable,
 }
 
 impl Refusal {
-    // The number that the page shows.
+    /// The number that the page shows: 1 to 21, each with its refusal.
     pub fn number(self) -> u8
         ensures { result ≡ refusal_number self }
     {
@@ -80,7 +92,7 @@ impl Refusal {
         }
     }
 
-    // What the centre said, where the refusal is the centre's.
+    /// What the centre said, where the refusal is the centre's; none goes with the others.
     pub fn denial(self) -> Option<Denial>
         ensures { result ≡ denial self }
     {
@@ -89,9 +101,54 @@ impl Refusal {
             _ => None,
         }
     }
+
+    // What it is called in a log, without its number.
+    fn words(self) -> &'static str
+        ensures { result.now ≡ refusal_words self }
+    {
+        match self {
+            Refusal::WrongPeriod => "the market's period does not allow the call",
+            Refusal::LotsOutOfRange => "the entry's lots are out of range",
+            Refusal::MarketTerms => "a market entry has price 0 and queues nothing",
+            Refusal::PriceOutOfBand => "the price or the opening's terms are out of range",
+            Refusal::NumbersUsedUp => "no order number is left",
+            Refusal::OwnOrderFirst => "refused before any trade, the account's own order is next",
+            Refusal::NotInFull => "the entry would not trade in full",
+            Refusal::RegisterFull => "the trade register is full",
+            Refusal::QueueFull => "the queue is full",
+            Refusal::NoSuchOrder => "no resting order has this number",
+            Refusal::NotYourOrder => "the order belongs to another account",
+            Refusal::ReductionOutOfRange => "the lots to reduce by are out of range",
+            Refusal::OutOfStep => "the centre holds fewer lots than the account has resting",
+            Refusal::CentreDenies(_) => "the centre says no",
+            Refusal::UnsoundText => "the phrase text is unsound",
+            Refusal::SharedPhrase => "two phrases are equal",
+            Refusal::LineTooShort => "the line has under 86 bytes",
+            Refusal::CommandLength => "the command does not have 37 bytes",
+            Refusal::CommandLetter => "a letter of the command is not known",
+            Refusal::CommandNumber => "a number of the command is malformed",
+            Refusal::NotPrintable => "the line cannot be printed or read back",
+        }
+    }
 }
 
-// The market passes on by `?` what the centre says.
+/// Words for a log or a message, and the number: `the queue is full (9)`. Of the centre's refusal
+/// they show what the centre said. A page shows a phrase of the house's instead.
+impl fmt::Display for Refusal {
+    ghost output = { λ refusal. Some (refusal_text refusal) };
+
+    fn fmt<W: fmt::Write>(&self, f: &mut fmt::Formatter<W>) -> fmt::Result {
+        write!(f, "{} ({})", self.words(), self.number())?;
+        match self.denial() {
+            Some(denial) => write!(f, ": {denial}"),
+            None => Ok(()),
+        }
+    }
+}
+
+impl Error for Refusal {}
+
+/// The market passes on by `?` what the centre says.
 impl From<Denial> for Refusal {
     ghost use Rattle.dealing.specs.declared.refusal.Refusal.TheVariants.{CentreDenies};
     ghost use Rattle.std.specs.Prelude.{◌≡◌};

@@ -5,9 +5,11 @@ ghost use Rattle.std.specs.Prelude.{◌≡◌};
 use crate::outcome::Outcome;
 use crate::refusal::Refusal;
 
+/// What a call comes to: accepted with an outcome (docs/FLOOR.md, section 8), or refused (section 11).
 pub type Reply = Result<Outcome, Refusal>;
 
-// How many replies own a phrase: refusals 1 to 14 and 18 to 20, and the outcomes.
+/// How many replies own a phrase: refusals 1 to 14 and 18 to 20, and the eleven outcomes
+/// (docs/PAGE.md, section 3).
 pub const OWNERS: usize = 28;
 
 // Their numbers, in the sequence of their phrases.
@@ -16,6 +18,7 @@ const NUMBERS: [u8; OWNERS] = [
     59, 60,
 ];
 
+/// The number that the page shows: 1 to 21 of a refusal, 50 to 60 of an outcome.
 pub fn number(reply: Reply) -> u8
     ensures { result ≡ reply_number reply }
 {
@@ -25,7 +28,8 @@ pub fn number(reply: Reply) -> u8
     }
 }
 
-// Which of the 28 phrases is the reply's; none for the refusals that never stand on a page.
+/// Which of the 28 phrases is the reply's, counted from 0. None for refusals 15, 16, 17 and 21, which
+/// never stand on a page.
 pub fn phrase_place(reply: Reply) -> Option<usize>
     ensures { result ≡ place (reply_number reply) }
 {
@@ -33,7 +37,7 @@ pub fn phrase_place(reply: Reply) -> Option<usize>
     NUMBERS.iter().position(|&owner| n == owner)
 }
 
-// The number of the reply that owns the phrase at a place.
+/// The number of the reply that owns the phrase at a place, counted from 0. None from place 28 on.
 pub fn owner_number(at: usize) -> Option<u8>
     ensures { result ≡ owner at }
 {
