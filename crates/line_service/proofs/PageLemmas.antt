@@ -75,8 +75,8 @@ module _ {State : Type 0} (longest : ℕ) (shown : State → ℕ → List ℕ �
         lost = q.lost;
         answer = ap (λ r. page_of r (n + length (xs ++ ys)) broken) there ∙ ap (λ k. page_of (after t ys) k broken) place ∙ q.answer;
         pages = subst (Appends a c)
-          (ap (λ l. page_of s n xs ++ (l ++ q.front)) then ∙ sym (append_assoc (page_of s n xs) (page_of (after s xs) (n + length xs) ys) q.front) ∙ ap (λ l. l ++ q.front) (sym (page-append s n xs ys)))
-          (Appends-trans a b c _ _ p.pages q.pages);
+            (ap (λ l. page_of s n xs ++ (l ++ q.front)) then ∙ sym (append_assoc (page_of s n xs) (page_of (after s xs) (n + length xs) ys) q.front) ∙ ap (λ l. l ++ q.front) (sym (page-append s n xs ys)))
+            (Appends-trans a b c _ _ p.pages q.pages);
       }
 
   pub ServesInPart-whole : (s t : State) (n : ℕ) (xs : List (List ℕ)) (a b : Option (List ℕ)) → Serves longest shown next s t n xs a b → ServesInPart longest shown next s t n xs [] a b

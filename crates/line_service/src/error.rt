@@ -1,7 +1,6 @@
 //! Why a service over lines stops before its input ends.
 use std::error::Error;
-use std::fmt;
-use std::io;
+use std::{fmt, io};
 
 /// Why a service over lines stops before its input ends.
 #[derive(Debug, Drop)]

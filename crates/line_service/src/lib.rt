@@ -6,6 +6,5 @@ mod line;
 mod output;
 pub mod serve;
 pub mod service;
-
 #[cfg(test)]
 mod tests;

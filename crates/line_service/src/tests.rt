@@ -38,13 +38,17 @@ impl LineService for Tally {
 
     ghost kept = { λ _ _. ⊤ };
 
-    ghost LONGEST = { 5 };
+    ghost longest = { 5 };
 
-    ghost LAST = { 6 };
+    ghost last = { 6 };
 
-    const LONGEST: usize = 5;
+    fn longest(&self) -> usize {
+        5
+    }
 
-    const LAST: u64 = 6;
+    fn last(&self) -> u64 {
+        6
+    }
 
     fn answer(&mut self, number: u64, line: &[u8]) {
         let length = line.len() as u64;
@@ -57,7 +61,9 @@ impl LineService for Tally {
     }
 
     ghost kept_self = { λ _. tt };
+
     ghost kept_on = { λ _ _ _ _ _. tt };
+
     ghost has_room = { Prim.search rules };
 }
 
@@ -181,7 +187,10 @@ fn each_line_is_answered(rt: HostRuntime) -> Result<(), Fail> {
         (&[b"ab\ncde\n", b"f\n"], "122\n235\n316\n"),
         (&[b"a", b"b\n\nc", b"\r\n"], "122\n202\n324\n"),
         (&[b"ab", b"c"], "133\n"),
-        (&[b"abcd", b"efgh", b"ij\nk\n", b"abcdefg\nl"], "155\n216\n351\n412\n"),
+        (
+            &[b"abcd", b"efgh", b"ij\nk\n", b"abcdefg\nl"],
+            "155\n216\n351\n412\n",
+        ),
     ];
     for (pieces, page) in cases {
         let ended = run(rt.alloc(), pieces, false, 99)?;
@@ -195,18 +204,25 @@ fn each_line_is_answered(rt: HostRuntime) -> Result<(), Fail> {
 #[test]
 fn errors_end_the_service(rt: HostRuntime) -> Result<(), Fail> {
     let read = run(rt.alloc(), &[b"ab\nc", b"d"], true, 99)?;
-    assert!(rt; matches!(read.result, Err(ServeError::Reading(e)) if e.kind() == ErrorKind::BrokenPipe));
+    assert!(rt;
+        matches!(read.result, Err(ServeError::Reading(e)) if e.kind() == ErrorKind::BrokenPipe)
+    );
     assert!(rt; read.in_time);
     assert_eq!(rt; read.written.as_slice(), b"122\n".as_slice());
 
     let write = run(rt.alloc(), &[b"ab\nc\n", b"d\n"], false, 5)?;
-    assert!(rt; matches!(write.result, Err(ServeError::Writing(e)) if e.kind() == ErrorKind::StorageFull));
+    assert!(rt;
+        matches!(write.result, Err(ServeError::Writing(e)) if e.kind() == ErrorKind::StorageFull)
+    );
     assert_eq!(rt; write.written.as_slice(), b"122\n2".as_slice());
 
     let many = run(rt.alloc(), &[b"a\na\na\na\na\na\n", b"b"], false, 99)?;
     assert!(rt; matches!(many.result, Err(ServeError::TooManyLines)));
     assert!(rt; many.in_time);
-    assert_eq!(rt; many.written.as_slice(), b"111\n212\n313\n414\n515\n616\n".as_slice());
+    assert_eq!(rt;
+        many.written.as_slice(),
+        b"111\n212\n313\n414\n515\n616\n".as_slice()
+    );
 
     let last = run(rt.alloc(), &[b"a\na\na\na\na\na"], false, 99)?;
     assert!(rt; last.result.is_ok());

@@ -9,19 +9,19 @@ use Rattle.line_service.proofs.serve.serve.Goals as goal
 
 pub returns-in_err-now-clause-err : goal.returns-in_err-now-clause-err
 returns-in_err-now-clause-err g c =
-    let longest = g.S.LineService.LONGEST in
+    let longest = g.S.LineService.longest in
     let p = err_from_is_err_and c.from_residual.result c.from_residual.ensures.1 in
     let e = c.in_err-now.field-0.0 in
     let before = c.loop-answered.invariant in
     let stopped = subst (λ n. StopsEarly n g.S.LineService.shown g.S.LineService.next (g.S.LineService.state c.loop-answered.service) (g.S.LineService.state c.serve_next.new.service) (c.loop-answered.answered + 1) (g.R.Read.remaining c.loop-answered.input) (g.W.Write.contents c.loop-answered.output) (g.W.Write.contents c.serve_next.new.output) e) before.room c.in_err-now.ensures.stopped in
     rw (p.1, p.2) (
-      Stops-early longest g.S.LineService.shown g.S.LineService.next g.S.LineService.LAST _ _ _ _ _ _ e
-      (StopsEarly-after longest g.S.LineService.shown g.S.LineService.next _ _ _ 1 (c.loop-answered.answered + 1) _ _ _ _ _ before.lines e (omega (arith, before.count)) before.read before.serves stopped)
+    Stops-early longest g.S.LineService.shown g.S.LineService.next g.S.LineService.last _ _ _ _ _ _ e
+    (StopsEarly-after longest g.S.LineService.shown g.S.LineService.next _ _ _ 1 (c.loop-answered.answered + 1) _ _ _ _ _ before.lines e (omega (arith, before.count)) before.read before.serves stopped)
     )
 
 pub returns-in-Done-clause-ok : goal.returns-in-Done-clause-ok
 returns-in-Done-clause-ok g c =
-    let longest = g.S.LineService.LONGEST in
+    let longest = g.S.LineService.longest in
     let before = c.loop-answered.invariant in
     let done = subst (λ n. ServesNext n g.S.LineService.shown g.S.LineService.next (g.S.LineService.state c.loop-answered.service) (g.S.LineService.state c.serve_next.new.service) (c.loop-answered.answered + 1) (g.R.Read.remaining c.loop-answered.input) (g.R.Read.remaining c.serve_next.new.input) (g.W.Write.contents c.loop-answered.output) (g.W.Write.contents c.serve_next.new.output) c.in_ok-now.field-0) before.room c.in_ok-now.ensures.served in
     let last = subst (ServesNext longest g.S.LineService.shown g.S.LineService.next _ _ _ _ _ _ _) c.in-Done.is done in
@@ -37,7 +37,7 @@ returns-in-Done-clause-ok g c =
 
 pub loop-answered-preserved : goal.loop-answered-preserved
 loop-answered-preserved g c =
-    let longest = g.S.LineService.LONGEST in
+    let longest = g.S.LineService.longest in
     let before = c.loop-answered.invariant in
     let more = subst (λ n. ServesNext n g.S.LineService.shown g.S.LineService.next (g.S.LineService.state c.loop-answered.service) (g.S.LineService.state c.serve_next.new.service) (c.loop-answered.answered + 1) (g.R.Read.remaining c.loop-answered.input) (g.R.Read.remaining c.serve_next.new.input) (g.W.Write.contents c.loop-answered.output) (g.W.Write.contents c.serve_next.new.output) c.in_ok-now.field-0) before.room c.in_ok-now.ensures.served in
     let one = subst (ServesNext longest g.S.LineService.shown g.S.LineService.next _ _ _ _ _ _ _) c.in-More.is more in
@@ -53,24 +53,24 @@ loop-answered-preserved g c =
 
 pub returns-in_err-wait_for_more-clause-err : goal.returns-in_err-wait_for_more-clause-err
 returns-in_err-wait_for_more-clause-err g c =
-    let longest = g.S.LineService.LONGEST in
+    let longest = g.S.LineService.longest in
     let p = err_from_is_err_and c.from_residual-in_err-wait_for_more.result c.from_residual-in_err-wait_for_more.ensures.1 in
     let e = c.in_err-wait_for_more.field-0.0 in
     let before = c.loop-answered.invariant in
     rw (p.1, p.2) (
-      Stops-early longest g.S.LineService.shown g.S.LineService.next g.S.LineService.LAST _ _ _ _ _ _ e (
-        StopsEarly-whole longest g.S.LineService.shown g.S.LineService.next _ _ 1 _ _ _ before.lines e
-        (other_error c.wait_for_more.result e _ c.wait_for_more.ensures.error c.in_err-wait_for_more.was)
-        (AreFirstLines-consumed _ _ _ before.read)
-        (Serves-kept longest g.S.LineService.shown g.S.LineService.next _ _ 1 before.lines _ _ _ before.serves c.wait_for_more.ensures.shown)
-      )
+    Stops-early longest g.S.LineService.shown g.S.LineService.next g.S.LineService.last _ _ _ _ _ _ e (
+    StopsEarly-whole longest g.S.LineService.shown g.S.LineService.next _ _ 1 _ _ _ before.lines e
+    (other_error c.wait_for_more.result e _ c.wait_for_more.ensures.error c.in_err-wait_for_more.was)
+    (AreFirstLines-consumed _ _ _ before.read)
+    (Serves-kept longest g.S.LineService.shown g.S.LineService.next _ _ 1 before.lines _ _ _ before.serves c.wait_for_more.ensures.shown)
+    )
     )
 
 pub returns-then-branch-clause-err : goal.returns-then-branch-clause-err
 returns-then-branch-clause-err g c =
-    let longest = g.S.LineService.LONGEST in
+    let longest = g.S.LineService.longest in
     let before = c.loop-answered.invariant in
-    let all : length before.lines ≡ g.S.LineService.LAST = omega (arith, before.count, c.loop-answered.auto.answered-end, c.loop-answered-test.false) in
+    let all : length before.lines ≡ g.S.LineService.last = omega (arith, before.count, c.loop-answered.auto.answered-end, c.loop-answered-test.false) in
     let more = c.wait_for_more.ensures.more (c.in_ok-wait_for_more.was ∙ ap Ok c.if-branch.true) in (
       before.lines,
       all,

@@ -7,10 +7,10 @@ use Rattle.line_service.proofs.serve.serve.Given as goal
 abbrev pub invariant-loop-answered : goal.invariant-loop-answered
 invariant-loop-answered g l =
     record {
-      room : length l.kept ≡ g.S.LineService.LONGEST;
+      room : length l.kept ≡ g.S.LineService.longest;
       lines : List (List ℕ);
       count : length lines ≡ l.answered;
       read : ConsumesLines (g.R.Read.remaining l.initial.input) (g.R.Read.remaining l.input) lines;
-      serves : Serves g.S.LineService.LONGEST g.S.LineService.shown g.S.LineService.next (g.S.LineService.state l.initial.service) (g.S.LineService.state l.service) 1 lines (g.W.Write.contents l.initial.output) (g.W.Write.contents l.output);
+      serves : Serves g.S.LineService.longest g.S.LineService.shown g.S.LineService.next (g.S.LineService.state l.initial.service) (g.S.LineService.state l.service) 1 lines (g.W.Write.contents l.initial.output) (g.W.Write.contents l.output);
       kept : g.S.LineService.kept l.initial.service l.service;
     }

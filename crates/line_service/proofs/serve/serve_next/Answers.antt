@@ -14,10 +14,10 @@ returns-in_err-ready-clause-stopped g c =
     let p = err_from_is_err_and c.from_residual.result c.from_residual.ensures.1 in
     let e = c.in_err-ready.field-0.0 in
     rw (p.1, p.2) (
-      StopsEarly-whole longest g.S.LineService.shown g.S.LineService.next _ _ c.args.number _ _ _ [] e
-      (other_error c.ready.result e _ c.ready.ensures.error c.in_err-ready.was)
-      (AreFirstLines-nil _)
-      (Serves-nil longest g.S.LineService.shown g.S.LineService.next _ _ c.args.number _ _ refl c.ready.ensures.shown)
+    StopsEarly-whole longest g.S.LineService.shown g.S.LineService.next _ _ c.args.number _ _ _ [] e
+    (other_error c.ready.result e _ c.ready.ensures.error c.in_err-ready.was)
+    (AreFirstLines-nil _)
+    (Serves-nil longest g.S.LineService.shown g.S.LineService.next _ _ c.args.number _ _ refl c.ready.ensures.shown)
     )
 
 pub returns-in_err-used_up-clause-stopped : goal.returns-in_err-used_up-clause-stopped
@@ -27,10 +27,10 @@ returns-in_err-used_up-clause-stopped g c =
     let e = c.in_err-used_up.field-0.0 in
     let same = c.in_err-used_up.ensures.err in
     rw (p.1, p.2) (
-      StopsEarly-whole longest g.S.LineService.shown g.S.LineService.next _ _ c.args.number _ _ _ [] e
-      (other_error c.answer_next.result e _ c.answer_next.ensures.error c.in_err-used_up.was)
-      (AreFirstLines-nil _)
-      (Serves-nil longest g.S.LineService.shown g.S.LineService.next _ _ c.args.number _ _ same (Keeps-trans _ _ _ c.ready.ensures.shown c.answer_next.ensures.shown))
+    StopsEarly-whole longest g.S.LineService.shown g.S.LineService.next _ _ c.args.number _ _ _ [] e
+    (other_error c.answer_next.result e _ c.answer_next.ensures.error c.in_err-used_up.was)
+    (AreFirstLines-nil _)
+    (Serves-nil longest g.S.LineService.shown g.S.LineService.next _ _ c.args.number _ _ same (Keeps-trans _ _ _ c.ready.ensures.shown c.answer_next.ensures.shown))
     )
 
 pub returns-in_err-write_whole-in-Line-clause-stopped : goal.returns-in_err-write_whole-in-Line-clause-stopped
@@ -42,8 +42,8 @@ returns-in_err-write_whole-in-Line-clause-stopped g c =
     let before = Serves-nil longest g.S.LineService.shown g.S.LineService.next _ _ c.args.number _ _ refl (Keeps-trans _ _ _ c.ready.ensures.shown c.answer_next.ensures.shown) in
     let wrote = subst (λ bytes. WritesFront (g.W.Write.contents c.answer_next.new.output) (g.W.Write.contents c.write_whole.new.output) bytes e) c.printed.ensures c.in_err-write_whole-in-Line.ensures.err in
     rw (p.1, p.2) (
-      StopsEarly-after longest g.S.LineService.shown g.S.LineService.next _ _ _ c.args.number c.args.number _ _ _ _ _ [] e (omega arith) (ConsumesLines-nil _ _ c.ready.ensures.kept) before
-      (StopsEarly-line longest g.S.LineService.shown g.S.LineService.next _ _ c.args.number _ _ _ now.line _ e (AreFirstLines-consumed _ _ _ now.read) now.answers wrote)
+    StopsEarly-after longest g.S.LineService.shown g.S.LineService.next _ _ _ c.args.number c.args.number _ _ _ _ _ [] e (omega arith) (ConsumesLines-nil _ _ c.ready.ensures.kept) before
+    (StopsEarly-line longest g.S.LineService.shown g.S.LineService.next _ _ c.args.number _ _ _ now.line _ e (AreFirstLines-consumed _ _ _ now.read) now.answers wrote)
     )
 
 pub returns-in_err-write_whole-in-LastLine-clause-stopped : goal.returns-in_err-write_whole-in-LastLine-clause-stopped
@@ -55,8 +55,8 @@ returns-in_err-write_whole-in-LastLine-clause-stopped g c =
     let before = Serves-nil longest g.S.LineService.shown g.S.LineService.next _ _ c.args.number _ _ refl (Keeps-trans _ _ _ c.ready.ensures.shown c.answer_next.ensures.shown) in
     let wrote = subst (λ bytes. WritesFront (g.W.Write.contents c.answer_next.new.output) (g.W.Write.contents c.write_whole-in-LastLine.new.output) bytes e) c.printed-in-LastLine.ensures c.in_err-write_whole-in-LastLine.ensures.err in
     rw (p.1, p.2) (
-      StopsEarly-after longest g.S.LineService.shown g.S.LineService.next _ _ _ c.args.number c.args.number _ _ _ _ _ [] e (omega arith) (ConsumesLines-nil _ _ c.ready.ensures.kept) before
-      (StopsEarly-line longest g.S.LineService.shown g.S.LineService.next _ _ c.args.number _ _ _ now.line _ e (AreFirstLines-consumed _ _ _ now.read) now.answers wrote)
+    StopsEarly-after longest g.S.LineService.shown g.S.LineService.next _ _ _ c.args.number c.args.number _ _ _ _ _ [] e (omega arith) (ConsumesLines-nil _ _ c.ready.ensures.kept) before
+    (StopsEarly-line longest g.S.LineService.shown g.S.LineService.next _ _ c.args.number _ _ _ now.line _ e (AreFirstLines-consumed _ _ _ now.read) now.answers wrote)
     )
 
 pub returns-in_err-flush-in-LastLine-clause-stopped : goal.returns-in_err-flush-in-LastLine-clause-stopped
@@ -69,13 +69,13 @@ returns-in_err-flush-in-LastLine-clause-stopped g c =
     let wrote = subst (Appends (g.W.Write.contents c.answer_next.new.output) (g.W.Write.contents c.write_whole-in-LastLine.new.output)) c.printed-in-LastLine.ensures c.in_ok-write_whole-in-LastLine.ensures.ok in
     let serves = Serves-line longest g.S.LineService.shown g.S.LineService.next _ _ c.args.number now.line _ _ _ now.answers wrote in
     rw (p.1, p.2) (
-      StopsEarly-after longest g.S.LineService.shown g.S.LineService.next _ _ _ c.args.number c.args.number _ _ _ _ _ [] e (omega arith) (ConsumesLines-nil _ _ c.ready.ensures.kept) before
-      (
-        StopsEarly-whole longest g.S.LineService.shown g.S.LineService.next _ _ c.args.number _ _ _ (now.line ∷ []) e
-        (other_error c.flush.result e _ c.flush.ensures.error c.in_err-flush-in-LastLine.was)
-        (AreFirstLines-consumed _ _ _ now.read)
-        (Serves-kept longest g.S.LineService.shown g.S.LineService.next _ _ c.args.number _ _ _ _ serves c.flush.ensures.shown)
-      )
+    StopsEarly-after longest g.S.LineService.shown g.S.LineService.next _ _ _ c.args.number c.args.number _ _ _ _ _ [] e (omega arith) (ConsumesLines-nil _ _ c.ready.ensures.kept) before
+    (
+    StopsEarly-whole longest g.S.LineService.shown g.S.LineService.next _ _ c.args.number _ _ _ (now.line ∷ []) e
+    (other_error c.flush.result e _ c.flush.ensures.error c.in_err-flush-in-LastLine.was)
+    (AreFirstLines-consumed _ _ _ now.read)
+    (Serves-kept longest g.S.LineService.shown g.S.LineService.next _ _ c.args.number _ _ _ _ serves c.flush.ensures.shown)
+    )
     )
 
 pub returns-in_err-flush-in-NoLine-clause-stopped : goal.returns-in_err-flush-in-NoLine-clause-stopped
@@ -86,10 +86,10 @@ returns-in_err-flush-in-NoLine-clause-stopped g c =
     let now = subst (AnswersNext longest g.S.LineService.shown g.S.LineService.next _ _ _ _ _ _) c.in-NoLine.is c.in_ok-used_up.ensures.next in
     let before = Serves-nil longest g.S.LineService.shown g.S.LineService.next _ _ c.args.number _ _ now.state (Keeps-trans _ _ _ c.ready.ensures.shown c.answer_next.ensures.shown) in
     rw (p.1, p.2) (
-      StopsEarly-whole longest g.S.LineService.shown g.S.LineService.next _ _ c.args.number _ _ _ [] e
-      (other_error c.flush-in-NoLine.result e _ c.flush-in-NoLine.ensures.error c.in_err-flush-in-NoLine.was)
-      (AreFirstLines-nil _)
-      (Serves-kept longest g.S.LineService.shown g.S.LineService.next _ _ c.args.number _ _ _ _ before c.flush-in-NoLine.ensures.shown)
+    StopsEarly-whole longest g.S.LineService.shown g.S.LineService.next _ _ c.args.number _ _ _ [] e
+    (other_error c.flush-in-NoLine.result e _ c.flush-in-NoLine.ensures.error c.in_err-flush-in-NoLine.was)
+    (AreFirstLines-nil _)
+    (Serves-kept longest g.S.LineService.shown g.S.LineService.next _ _ c.args.number _ _ _ _ before c.flush-in-NoLine.ensures.shown)
     )
 
 pub returns-in_ok-flush-in-LastLine-clause-served : goal.returns-in_ok-flush-in-LastLine-clause-served
@@ -106,6 +106,6 @@ returns-in_ok-flush-in-LastLine-clause-served g c =
       record {
         read = ConsumesLines-trans _ _ _ [] (line ∷ []) (ConsumesLines-nil _ _ c.ready.ensures.kept) now.0.read;
         serves = Serves-trans longest g.S.LineService.shown g.S.LineService.next _ _ _ c.args.number c.args.number [] (line ∷ []) _ _ _ (omega arith) before
-          (Serves-kept longest g.S.LineService.shown g.S.LineService.next _ _ c.args.number _ _ _ _ serves c.flush.ensures.shown);
+            (Serves-kept longest g.S.LineService.shown g.S.LineService.next _ _ c.args.number _ _ _ _ serves c.flush.ensures.shown);
       },
     )
