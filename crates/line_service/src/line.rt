@@ -1,6 +1,6 @@
 //! A line, as its pieces come.
-ghost use Rattle.std.specs.Prelude.{◌≡◌, ◌≢◌, ◌++◌, ◌∷◌, [], ◌<◌, ◌≤◌, ◌+◌, ℕ, List, length, take, true, false, Ok, Err, IfSome, IfNone, IfOk, OnOk, OnErr, OnSome};
-ghost use Rattle.std.specs.Io.KnownBytes.{Consumes, IsAtEnd, Keeps};
+ghost use Rattle.std.specs.Prelude.{◌≡◌, ◌≢◌, ◌+◌, ◌<◌, ◌≤◌, ◌++◌, ◌∷◌, [], length, take, false, Err, IfNone, IfOk, IfSome, OnSome};
+ghost use Rattle.std.specs.Io.KnownBytes.{IsAtEnd, Keeps};
 ghost use Rattle.line_service.specs.declared.error.ServeError.TheVariants.{TooManyLines};
 ghost use Rattle.line_service.specs.Pieces.{HoldsMore, IsWithinLine, TakesPiece};
 
@@ -23,8 +23,8 @@ pub(crate) struct Piece {
 
 /// Where the line ends that the bytes begin with, if its byte 10 is among them.
 pub(crate) fn line_end(bytes: &[u8]) -> Option<usize>
-    ensures found { IfSome result (λ end. (end < length bytes.now) × IsWithinLine (take end bytes.now)
-        × (take (end + 1) bytes.now ≡ take end bytes.now ++ 10 ∷ [])) }
+    ensures found { IfSome result (λ end. (end < length bytes.now)
+        × IsWithinLine (take end bytes.now) × (take (end + 1) bytes.now ≡ take end bytes.now ++ 10 ∷ [])) }
     ensures none { IfNone result (IsWithinLine bytes.now) }
 {
     memchr(b'\n', bytes)
@@ -57,7 +57,8 @@ pub(crate) fn take_piece<R: BufRead>(
 ) -> io::Result<Piece>
     requires { len ≤ length kept.old }
     ensures room { length kept.new ≡ length kept.old }
-    ensures piece { IfOk result (TakesPiece (R.remaining input.old) (R.remaining input.new) kept.old len kept.new) }
+    ensures piece { IfOk result
+        (TakesPiece (R.remaining input.old) (R.remaining input.new) kept.old len kept.new) }
 {
     let buffer = input.fill_buf()?;
     match line_end(buffer) {
@@ -94,8 +95,10 @@ pub(crate) fn finish_line<R: BufRead, W: Write>(
     requires { len ≤ length kept.old }
     ensures room { length kept.new ≡ length kept.old }
     ensures shown { Keeps (W.contents output.old) (W.contents output.new) }
-    ensures piece { IfOk result (λ piece. TakesPiece (R.remaining input.old) (R.remaining input.new) kept.old len kept.new piece) }
-    ensures end { IfOk result (λ piece. piece.ended ≡ false → OnSome (R.remaining input.old) (IsAtEnd (R.remaining input.new))) }
+    ensures piece { IfOk result
+        (TakesPiece (R.remaining input.old) (R.remaining input.new) kept.old len kept.new) }
+    ensures end { IfOk result (λ piece. piece.ended ≡ false
+        → OnSome (R.remaining input.old) (IsAtEnd (R.remaining input.new))) }
     ensures error { result ≢ Err TooManyLines }
 {
     let mut len = len;

@@ -1,5 +1,5 @@
 //! What is written, and what is shown of it before the reader waits.
-ghost use Rattle.std.specs.Prelude.{◌≡◌, ◌≢◌, ◌++◌, ◌<◌, ℕ, List, length, true, false, Ok, Err, IfErr, IfSome, OnOk, OnSome};
+ghost use Rattle.std.specs.Prelude.{◌≡◌, ◌≢◌, ◌<◌, length, true, false, Ok, Err, IfErr, IfSome, OnOk, OnSome};
 ghost use Rattle.std.specs.Io.KnownBytes.{Appends, IsAtEnd, Keeps};
 ghost use Rattle.line_service.specs.Pieces.{WritesFront};
 ghost use Rattle.line_service.specs.declared.error.ServeError.TheVariants.{TooManyLines};
@@ -14,7 +14,8 @@ pub(crate) const TRIES: u64 = u64::MAX;
 /// Writes all of the bytes. Where that fails, a front of them is written.
 pub(crate) fn write_whole<W: Write>(output: &mut W, bytes: &[u8]) -> Result<(), ServeError>
     ensures ok { OnOk result (Appends (W.contents output.old) (W.contents output.new) bytes.now) }
-    ensures err { IfErr result (WritesFront (W.contents output.old) (W.contents output.new) bytes.now) }
+    ensures err { IfErr result
+        (WritesFront (W.contents output.old) (W.contents output.new) bytes.now) }
 {
     let mut rest = bytes;
     for _ in 0..TRIES {
@@ -45,8 +46,10 @@ pub(crate) fn flush<W: Write>(output: &mut W) -> Result<(), ServeError>
 /// Waits until the reader has more, and says whether it has.
 fn has_more<R: BufRead>(input: &mut R) -> io::Result<bool>
     ensures kept { Keeps (R.remaining input.old) (R.remaining input.new) }
-    ensures more { result ≡ Ok true → IfSome (R.remaining input.old) (λ text. 0 < length text) }
-    ensures end { result ≡ Ok false → OnSome (R.remaining input.old) (IsAtEnd (R.remaining input.new)) }
+    ensures more { result ≡ Ok true
+        → IfSome (R.remaining input.old) (λ text. 0 < length text) }
+    ensures end { result ≡ Ok false
+        → OnSome (R.remaining input.old) (IsAtEnd (R.remaining input.new)) }
 {
     for _ in 0..TRIES {
         match input.fill_buf() {
@@ -68,8 +71,10 @@ pub(crate) fn wait_for_more<R: BufRead, W: Write>(
 ) -> Result<bool, ServeError>
     ensures shown { Keeps (W.contents output.old) (W.contents output.new) }
     ensures kept { Keeps (R.remaining input.old) (R.remaining input.new) }
-    ensures more { result ≡ Ok true → IfSome (R.remaining input.old) (λ text. 0 < length text) }
-    ensures end { result ≡ Ok false → OnSome (R.remaining input.old) (IsAtEnd (R.remaining input.new)) }
+    ensures more { result ≡ Ok true
+        → IfSome (R.remaining input.old) (λ text. 0 < length text) }
+    ensures end { result ≡ Ok false
+        → OnSome (R.remaining input.old) (IsAtEnd (R.remaining input.new)) }
     ensures error { result ≢ Err TooManyLines }
 {
     flush(output)?;
@@ -84,7 +89,8 @@ pub(crate) fn ready<R: BufRead, W: Write>(
 ) -> Result<bool, ServeError>
     ensures shown { Keeps (W.contents output.old) (W.contents output.new) }
     ensures kept { Keeps (R.remaining input.old) (R.remaining input.new) }
-    ensures end { result ≡ Ok false → OnSome (R.remaining input.old) (IsAtEnd (R.remaining input.new)) }
+    ensures end { result ≡ Ok false
+        → OnSome (R.remaining input.old) (IsAtEnd (R.remaining input.new)) }
     ensures error { result ≢ Err TooManyLines }
 {
     if used_up {

@@ -1,8 +1,8 @@
 //! The service over all lines of a reader.
-ghost use Rattle.std.specs.Prelude.{◌≡◌, ◌≢◌, ◌++◌, ◌∷◌, [], ◌<◌, ◌≤◌, ◌+◌, ℕ, List, length, true, false, Ok, Err, IfOk, IfErr, OnErr, OnOk, OnSome, IfSome};
+ghost use Rattle.std.specs.Prelude.{◌≡◌, ◌≢◌, ◌≤◌, ℕ, List, length, Err, IfErr, IfOk, OnErr, OnOk, OnSome};
 ghost use Rattle.std.specs.Io.KnownBytes.{IsAtEnd, Keeps};
-ghost use Rattle.line_service.specs.Lines.{AreLines, AreFirstLines, ConsumesLines};
-ghost use Rattle.line_service.specs.Page.{Serves, ServesInPart};
+ghost use Rattle.line_service.specs.Lines.{AreLines};
+ghost use Rattle.line_service.specs.Page.{Serves};
 ghost use Rattle.line_service.specs.Steps.{AnswersNext, LooksAt, ServesNext};
 ghost use Rattle.line_service.specs.Stops.{Stops, StopsEarly};
 ghost use Rattle.line_service.specs.declared.error.ServeError.TheVariants.{TooManyLines};
@@ -156,12 +156,12 @@ fn serve_next<S: LineService, R: BufRead, W: Write>(
 /// Answers the lines of the input, from number 1 on, and writes each answer before it looks at the next line.
 ///
 /// A line goes up to a byte 10; what follows the last byte 10 is a line too, unless it is empty. No other byte tells
-/// anything here. Of a line no more is kept, or handed to the service, than its first `LONGEST` bytes. What is written
+/// anything here. Of a line no more is kept, or handed to the service, than its first `longest` bytes. What is written
 /// is flushed each time before the reader may have to wait, and at the end.
 ///
 /// # Errors
 /// `Reading` and `Writing` where the reader or the writer fails, and `TooManyLines` where more stands behind the line
-/// with the number `LAST`. What was read of the input beyond the lines that were answered is left open after a failure.
+/// with the number `last`. What was read of the input beyond the lines that were answered is left open after a failure.
 pub fn serve<S: LineService, R: BufRead, W: Write>(
     service: &mut S,
     input: &mut R,
@@ -179,9 +179,9 @@ pub fn serve<S: LineService, R: BufRead, W: Write>(
     ensures kept { S.kept service.old service.new }
 {
     let mut room = [0; ROOM];
-    let kept = &mut room[..S::LONGEST];
+    let kept = &mut room[..service.longest()];
     let mut used_up = true;
-    for answered in 0..S::LAST {
+    for answered in 0..service.last() {
         match serve_next(service, input, output, answered + 1, kept, used_up)? {
             Step::More(now) => used_up = now,
             Step::Done => return Ok(()),

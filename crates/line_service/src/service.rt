@@ -5,7 +5,7 @@ ghost use Rattle.line_service.specs.declared.service.TheConstants.{ROOM};
 /// The most bytes of a line that a service can look at.
 pub const ROOM: usize = 128;
 
-/// Answers lines, each under its number.
+/// Answers lines, each under its number. What is answered is a function of the state, the number and the line.
 pub trait LineService {
     /// What an answer depends on beside the line and its number.
     ghost State: { Type 0 };
@@ -25,19 +25,23 @@ pub trait LineService {
     /// What no answer changes.
     ghost kept: { Self → Self → Type 0 };
 
-    ghost LONGEST: { ℕ };
-
-    ghost LAST: { ℕ };
-
-    /// How many bytes of a line the service looks at, at most `ROOM`. It sees no more of a longer line.
-    const LONGEST: usize;
+    /// How many bytes of a line the service looks at.
+    ghost longest: { ℕ };
 
     /// The number of the last line that the service answers.
-    const LAST: u64;
+    ghost last: { ℕ };
+
+    /// How many bytes of a line the service looks at, from 0 to `ROOM`. It sees no more of a longer line.
+    fn longest(&self) -> usize
+        ensures { result ≡ longest };
+
+    /// The number of the last line that the service answers.
+    fn last(&self) -> u64
+        ensures { result ≡ last };
 
     /// Answers a line.
     fn answer(&mut self, number: u64, line: &[u8])
-        requires { number ≤ LAST }
+        requires { number ≤ last }
         ensures shown { printed self.new ≡ shown (state self.old) number line.now }
         ensures next { state self.new ≡ next (state self.old) line.now }
         ensures kept { kept self.old self.new };

@@ -39,13 +39,17 @@ impl LineService for Tally {
 
     ghost kept = { λ _ _. ⊤ };
 
-    ghost LONGEST = { 5 };
+    ghost longest = { 5 };
 
-    ghost LAST = { 6 };
+    ghost last = { 6 };
 
-    const LONGEST: usize = 5;
+    fn longest(&self) -> usize {
+        5
+    }
 
-    const LAST: u64 = 6;
+    fn last(&self) -> u64 {
+        6
+    }
 
     fn answer(&mut self, number: u64, line: &[u8]) {
         let length = line.len().min(5) as u64;
