@@ -55,7 +55,8 @@ fn look<S: LineService, R: BufRead>(
     requires number { number ≤ S.LAST }
     requires looks { length kept.old ≡ S.LONGEST }
     ensures room { length kept.new ≡ length kept.old }
-    ensures begun { IfOk result (LooksAt S.shown S.next (S.state service.old) (S.state service.new) number
+    ensures begun { IfOk result (LooksAt S.shown S.next
+        (S.state service.old) (S.state service.new) number
         (R.remaining input.old) (R.remaining input.new) (S.printed service.new) kept.new) }
     ensures err { OnErr result (S.state service.new ≡ S.state service.old) }
     ensures kept { S.kept service.old service.new }
@@ -90,7 +91,8 @@ fn answer_next<S: LineService, R: BufRead, W: Write>(
     requires looks { length kept.old ≡ S.LONGEST }
     ensures room { length kept.new ≡ length kept.old }
     ensures shown { Keeps (W.contents output.old) (W.contents output.new) }
-    ensures next { IfOk result (AnswersNext S.shown S.next (S.state service.old) (S.state service.new) number
+    ensures next { IfOk result (AnswersNext S.shown S.next
+        (S.state service.old) (S.state service.new) number
         (R.remaining input.old) (R.remaining input.new) (S.printed service.new)) }
     ensures err { OnErr result (S.state service.new ≡ S.state service.old) }
     ensures error { result ≢ Err TooManyLines }
@@ -127,9 +129,12 @@ fn serve_next<S: LineService, R: BufRead, W: Write>(
     requires number { number ≤ S.LAST }
     requires looks { length kept.old ≡ S.LONGEST }
     ensures room { length kept.new ≡ length kept.old }
-    ensures served { IfOk result (ServesNext S.shown S.next (S.state service.old) (S.state service.new) number
-        (R.remaining input.old) (R.remaining input.new) (W.contents output.old) (W.contents output.new)) }
-    ensures stopped { IfErr result (StopsEarly S.shown S.next (S.state service.old) (S.state service.new) number
+    ensures served { IfOk result (ServesNext S.shown S.next
+        (S.state service.old) (S.state service.new) number
+        (R.remaining input.old) (R.remaining input.new)
+        (W.contents output.old) (W.contents output.new)) }
+    ensures stopped { IfErr result (StopsEarly S.shown S.next
+        (S.state service.old) (S.state service.new) number
         (R.remaining input.old) (W.contents output.old) (W.contents output.new)) }
     ensures kept { S.kept service.old service.new }
 {
@@ -156,12 +161,12 @@ fn serve_next<S: LineService, R: BufRead, W: Write>(
 /// Answers the lines of the input, from number 1 on, and writes each answer before it looks at the next line.
 ///
 /// A line goes up to a byte 10; what follows the last byte 10 is a line too, unless it is empty. No other byte tells
-/// anything here. Of a line no more is kept, or handed to the service, than its first `longest` bytes. What is written
+/// anything here. Of a line no more is kept, or handed to the service, than its first `LONGEST` bytes. What is written
 /// is flushed each time before the reader may have to wait, and at the end.
 ///
 /// # Errors
 /// `Reading` and `Writing` where the reader or the writer fails, and `TooManyLines` where more stands behind the line
-/// with the number `last`. What was read of the input beyond the lines that were answered is left open after a failure.
+/// with the number `LAST`. What was read of the input beyond the lines that were answered is left open after a failure.
 pub fn serve<S: LineService, R: BufRead, W: Write>(
     service: &mut S,
     input: &mut R,
@@ -169,19 +174,22 @@ pub fn serve<S: LineService, R: BufRead, W: Write>(
 ) -> Result<(), ServeError>
     // All of the input was read, and the page of all of its lines is written.
     ensures ok { OnOk result ((lines : List (List ℕ)) × AreLines (R.remaining input.old) lines
-        × OnSome (R.remaining input.old) (IsAtEnd (R.remaining input.new)) × (length lines ≤ S.LAST)
+        × OnSome (R.remaining input.old) (IsAtEnd (R.remaining input.new))
+        × (length lines ≤ S.LAST)
         × Serves S.shown S.next (S.state service.old) (S.state service.new) 1 lines
         (W.contents output.old) (W.contents output.new)) }
 
     // The page of the first lines is written, at an error of writing with a front of one more answer.
-    ensures err { IfErr result (Stops S.shown S.next S.LAST (S.state service.old) (S.state service.new)
-        (R.remaining input.old) (R.remaining input.new) (W.contents output.old) (W.contents output.new)) }
+    ensures err { IfErr result (Stops S.shown S.next S.LAST
+        (S.state service.old) (S.state service.new) (R.remaining input.old) (R.remaining input.new)
+        (W.contents output.old) (W.contents output.new)) }
+
     ensures kept { S.kept service.old service.new }
 {
     let mut room = [0; ROOM];
-    let kept = &mut room[..service.longest()];
+    let kept = &mut room[..S::LONGEST];
     let mut used_up = true;
-    for answered in 0..service.last() {
+    for answered in 0..S::LAST {
         match serve_next(service, input, output, answered + 1, kept, used_up)? {
             Step::More(now) => used_up = now,
             Step::Done => return Ok(()),

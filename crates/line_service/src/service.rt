@@ -25,23 +25,19 @@ pub trait LineService {
     /// What no answer changes.
     ghost kept: { Self → Self → Type 0 };
 
-    /// How many bytes of a line the service looks at.
-    ghost longest: { ℕ };
+    ghost LONGEST: { ℕ };
+
+    ghost LAST: { ℕ };
+
+    /// How many bytes of a line the service looks at, at most `ROOM`. It sees no more of a longer line.
+    const LONGEST: usize;
 
     /// The number of the last line that the service answers.
-    ghost last: { ℕ };
-
-    /// How many bytes of a line the service looks at, from 0 to `ROOM`. It sees no more of a longer line.
-    fn longest(&self) -> usize
-        ensures { result ≡ longest };
-
-    /// The number of the last line that the service answers.
-    fn last(&self) -> u64
-        ensures { result ≡ last };
+    const LAST: u64;
 
     /// Answers a line.
     fn answer(&mut self, number: u64, line: &[u8])
-        requires { number ≤ last }
+        requires { number ≤ LAST }
         ensures shown { printed self.new ≡ shown (state self.old) number line.now }
         ensures next { state self.new ≡ next (state self.old) line.now }
         ensures kept { kept self.old self.new };

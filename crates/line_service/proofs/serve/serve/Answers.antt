@@ -64,7 +64,7 @@ returns-in_err-wait_for_more-clause-err g c =
 pub returns-then-branch-clause-err : goal.returns-then-branch-clause-err
 returns-then-branch-clause-err g c =
     let before = c.loop-answered.invariant in
-    let all : length before.lines ≡ g.S.LineService.last = omega (arith, before.count, c.loop-answered.auto.answered-end, c.loop-answered-test.false) in
+    let all : length before.lines ≡ g.S.LineService.LAST = omega (arith, before.count, c.loop-answered.auto.answered-end, c.loop-answered-test.false) in
     let more = c.wait_for_more.ensures.more (c.in_ok-wait_for_more.was ∙ ap Ok c.if-branch.true) in (
       before.lines,
       all,

@@ -7,7 +7,7 @@ use Rattle.line_service.proofs.serve.serve.Given as goal
 abbrev pub invariant-loop-answered : goal.invariant-loop-answered
 invariant-loop-answered g l =
     record {
-      room : length l.kept ≡ g.S.LineService.longest;
+      room : length l.kept ≡ g.S.LineService.LONGEST;
       lines : List (List ℕ);
       count : length lines ≡ l.answered;
       read : ConsumesLines (g.R.Read.remaining l.initial.input) (g.R.Read.remaining l.input) lines;

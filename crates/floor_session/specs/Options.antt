@@ -2,10 +2,10 @@
 use Rattle.std.specs.Prelude.{◌≡◌, ℕ, List, [], ◌∷◌, map, codes, Ok, Err, Result, IfOk, MatchBool, string_bytes}
 use Rattle.std.specs.Str.{bytes_eq}
 use Rattle.std.specs.declared.string.String.{String}
-use Rattle.session.specs.declared.options.ArgsError.{ArgsError}
-use Rattle.session.specs.declared.options.ArgsError.TheVariants.{NoFile, NotKnown}
-use Rattle.session.specs.declared.options.Asked.{Asked}
-use Rattle.session.specs.declared.options.Asked.TheVariants.{Help, Session, SessionWith}
+use Rattle.floor_session.specs.declared.options.ArgsError.{ArgsError}
+use Rattle.floor_session.specs.declared.options.ArgsError.TheVariants.{NoFile, NotKnown}
+use Rattle.floor_session.specs.declared.options.Asked.{Asked}
+use Rattle.floor_session.specs.declared.options.Asked.TheVariants.{Help, Session, SessionWith}
 
 abbrev pub args_error_text : ArgsError → List ℕ
 args_error_text NoFile = codes "--phrases wants a file, see session --help"

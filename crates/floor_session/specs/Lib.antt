@@ -1,0 +1,2 @@
+pub mod Accounts
+pub mod Options
