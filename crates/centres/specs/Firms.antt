@@ -69,7 +69,7 @@ abbrev pub first_no : Option Denial → Option Denial → Option Denial
 first_no None x = x
 first_no (Some d) x = Some d
 
--- the depth of a layer over one at the depth d
+-- the depth of a layer over one at the depth d: it stops growing at 99
 abbrev pub layer_over : ℕ → ℕ
 layer_over d = min (d + 1) 99
 

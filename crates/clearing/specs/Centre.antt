@@ -27,7 +27,7 @@ abbrev pub Sound : Option Line → Type 0
 Sound None = Unit {0}
 Sound (Some l) = sound_line l ≡ true
 
--- a no of an own rule: the centre's, at depth 0, or that of a firm cap at a layer from 1 to d
+-- a no of an own rule: the centre's, at depth 0, or that of a firm cap at a depth from 1 to d
 abbrev pub DeniedBy : ℕ → Cause → ℕ → Type 0
 DeniedBy d NoLine k = ⊥
 DeniedBy d OutOfRange k = ⊥

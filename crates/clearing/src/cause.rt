@@ -79,7 +79,8 @@ impl fmt::Display for UnknownCause {
 
 impl Error for UnknownCause {}
 
-/// A no, with the number of the layer that says it, where the bottom has 0 and the first layer 1 (docs/CENTRE.md, section 2).
+/// A no, with the depth of the layer that says it: 0 for the bottom, 1 for the first layer, 99 from the 99th on
+/// (docs/CENTRE.md, section 2).
 #[derive(Clone, Copy, PartialEq, Eq, Debug)]
 pub struct Denial {
     pub cause: Cause,

@@ -23,14 +23,14 @@ pub trait Centre {
     /// The own rule of the bottom and that of each layer over it, as a function of any lines.
     ghost own: { Self → Own };
 
-    /// How many layers are below, at most 99.
+    /// How many layers are below, or 99 where there are more.
     ghost depth: { Self → ℕ };
 
     /// Whether all that a house set (margin, deposits or limits, firms, members, caps, and so on, at every layer) is the
     /// same in two states of the centre.
     ghost same_settings: { Self → Self → Type 0 };
 
-    /// The number of the layer, from 0 at the bottom to 99.
+    /// The depth of the layer: 0 at the bottom, and 99 from the 99th layer on.
     fn depth(&self) -> u8
         ensures { result ≡ depth self.now };
 
@@ -60,7 +60,7 @@ pub trait Centre {
     /// Held plus settled on one side never passes 999,999,999.
     ghost sound: { (s : Self) (a : ℤ) → Sound (lines s a) };
 
-    /// The own rule says no by cause 3 at the bottom, or by cause 4 at a layer over it, up to this one.
+    /// The own rule says no by cause 3 at depth 0, or by cause 4 at a depth from 1 to this layer's.
     ghost denies: { (s : Self) (l : Lines) (a : ℤ) (d : Side) (n : ℕ) → Denies (depth s) (own s l a d n) };
 
     ghost shallow: { (s : Self) → depth s ≤ 99 };
@@ -68,7 +68,7 @@ pub trait Centre {
     /// Where no setting moved, the own rule says the same.
     ghost same_own: { (s t : Self) → same_settings s t → own s ≡ own t };
 
-    /// Where no setting moved, there are as many layers.
+    /// Where no setting moved, the depth is the same.
     ghost same_depth: { (s t : Self) → same_settings s t → depth s ≡ depth t };
 
     ghost same_self: { (s : Self) → same_settings s s };

@@ -75,7 +75,7 @@ impl Ledger {
         requires room { (d : AccountLine) → in_range side lots (get_or self.old.rows at d).line ≡ true }
         ensures held { (a : ℤ) → Found account_of self.old.rows a (Some at) → Adjusted self.old.rows a (hold side lots) self.new.rows }
     {
-        self.rows.item_mut(at).hold(side, lots);
+        self.rows.item_mut(at).unwrap().hold(side, lots);
     }
 
     // Where the row of an account is, if it holds the lots; else the cause is 5.
@@ -97,7 +97,7 @@ impl Ledger {
         ensures { HeldMoved self.old.rows account side lots (settle side lots) self.new.rows result }
     {
         let at = self.holder(account, side, lots)?;
-        self.rows.item_mut(at).settle(side, lots);
+        self.rows.item_mut(at).unwrap().settle(side, lots);
         Ok(())
     }
 
@@ -106,7 +106,7 @@ impl Ledger {
         ensures { HeldMoved self.old.rows account side lots (release side lots) self.new.rows result }
     {
         let at = self.holder(account, side, lots)?;
-        self.rows.item_mut(at).release(side, lots);
+        self.rows.item_mut(at).unwrap().release(side, lots);
         Ok(())
     }
 

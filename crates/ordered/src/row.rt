@@ -1,6 +1,6 @@
 // Rows with room of their own.
-ghost use Rattle.std.specs.Prelude.{◌≡◌, ◌+◌, ◌<◌, ◌≤◌, ◌↔◌, Bool, true, [], ◌∷◌, ◌++◌, length, IfErr, IfOk, IsTrue, OnOk, slice_index_or, slice_set};
-ghost use Rattle.std.specs.Borrow.{Lends, sem};
+ghost use Rattle.std.specs.Prelude.{◌≡◌, ◌+◌, ◌<◌, ◌≤◌, ◌↔◌, Bool, true, [], ◌∷◌, ◌++◌, length, IfErr, IfOk, IfSome, IsSome, IsTrue, OnOk, slice_index_or, slice_set};
+ghost use Rattle.std.specs.Borrow.{LendsIf, sem};
 ghost use Rattle.ordered.specs.contracts.row.Row.{the_row};
 ghost use Rattle.ordered.specs.Kept.{AddedWithin, TakenOut};
 ghost use Rattle.ordered.specs.Row.{Lacks, in_order};
@@ -88,12 +88,12 @@ impl<T, const N: usize> Row<T, N> {
         take(&mut self.kept, at)
     }
 
-    /// Lends the item at a place.
-    pub fn item_mut(&mut self, at: usize) -> &mut T
-        requires { at < length self.old }
-        ensures* lends { sem 𝓛 (Lends (the_row T.row N.row) T.row self.entry result (slice_set self.old at)) }
-        ensures value { result.now ≡ slice_index_or self.old at result.now }
+    /// Lends the item at a place; none where the place is past the end.
+    pub fn item_mut(&mut self, at: usize) -> Option<&mut T>
+        ensures* lends { sem 𝓛 (LendsIf (the_row T.row N.row) T.row self.entry result (slice_set self.old at) self.old) }
+        ensures there { IsSome result ↔ (at < length self.old) }
+        ensures value { IfSome result (λ x. x.now ≡ slice_index_or self.old at x.now) }
     {
-        &mut self.kept[at]
+        self.kept.get_mut(at)
     }
 }

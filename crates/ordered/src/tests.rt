@@ -117,7 +117,7 @@ fn keeps_a_row_within_its_room(rt: HostRuntime) -> Result<(), Fail> {
     assert_eq!(rt; row.add(&by, numbered(3)), Err(numbered(3)));
     assert_eq!(rt; row.push(numbered(3)), Err(numbered(3)));
     assert_eq!(rt; row.len(), 2);
-    row.item_mut(1).mark = 1;
+    row.item_mut(1).unwrap().mark = 1;
     assert_eq!(rt;
         row.as_slice(),
         [numbered(2), Item { id: 5, mark: 1 }].as_slice()

@@ -1,6 +1,6 @@
 // A house's phrases, one for each reply that owns one. Two equal phrases cannot be in a table.
 ghost use Rattle.std.specs.Prelude.{◌≡◌, ◌<◌, ◌≤◌, [], length, IfSome, MatchOption, slice_index_or};
-ghost use Rattle.page.specs.Phrases.{filled, found_from, phrases, AllDifferent, AllThere, AllWide, NoneEmpty, NoneEndsBlank, NoneLong};
+ghost use Rattle.page.specs.Phrases.{filled, found_from, phrases, AllWide, Table};
 
 use dealing::reply::OWNERS;
 
@@ -14,11 +14,7 @@ pub const WIDTH: usize = 40;
 pub struct PhraseTable {
     rows: [[u8; WIDTH]; OWNERS],
     ghost wide: { AllWide rows },
-    ghost count: { AllThere (phrases rows) },
-    ghost named: { NoneEmpty (phrases rows) },
-    ghost short: { NoneLong (phrases rows) },
-    ghost ended: { NoneEndsBlank (phrases rows) },
-    ghost apart: { AllDifferent (phrases rows) },
+    ghost table: { Table (phrases rows) },
 }
 
 impl PhraseTable {

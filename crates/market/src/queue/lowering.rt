@@ -17,7 +17,7 @@ impl Queue {
         ensures grant { (d : Order) → result ≡ grant_of (account_of (slice_index_or self.old.orders at d)) (side_of (slice_index_or self.old.orders at d)) lots }
         ensures lowered { (d : Order) → self.new.orders ≡ slice_set self.old.orders at (lowered (slice_index_or self.old.orders at d) lots) }
     {
-        self.orders.item_mut(at).call_up(lots)
+        self.orders.item_mut(at).unwrap().call_up(lots)
     }
 
     // Takes the order at a place out of the queue if it has no lots left.

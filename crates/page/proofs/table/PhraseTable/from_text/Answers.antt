@@ -5,5 +5,4 @@ use Rattle.page.proofs.table.PhraseTable.from_text.Goals as goal
 pub invariant_of-result : goal.invariant_of-result
 invariant_of-result c =
     let rows = c.in_ok-rows.ensures in
-    let table = table_sound c.args.text.now _ rows.0 (sym c.in_default.ensures) in
-    record { wide = rows.1; count = table.count; named = table.named; short = table.short; ended = table.ended; apart = table.apart }
+    record { wide = rows.1; table = table_sound c.args.text.now _ rows.0 (sym c.in_default.ensures) }

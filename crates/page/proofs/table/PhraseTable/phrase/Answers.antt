@@ -11,7 +11,7 @@ loop-phrase-preserved c = trim_step c.loop-phrase.phrase.now c.in-32.len_at_leas
 pub returns : goal.returns
 returns c =
     let table = c.args.self.now in
-    let there = sym (length-map table.rows trimmed) ∙ table.count in
+    let there = sym (length-map table.rows trimmed) ∙ table.table.count in
     let phrase = c.loop-phrase.phrase.now in
     let row = c.in_ok-get.ensures.lookup.3 in
     let whole : trimmed phrase ≡ phrase =
