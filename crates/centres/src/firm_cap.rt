@@ -1,4 +1,4 @@
-// The firm cap: a layer over any centre, another cap included, that limits what all accounts of a firm come to.
+// The firm cap: a layer that limits what all accounts of a firm come to. It goes over whatever is a centre, over caps too.
 ghost use Rattle.std.specs.Prelude.{◌≡◌, ◌^◌, ◌<◌};
 ghost use Rattle.centres.specs.FirmCap.{CapSet, PlacedIn};
 ghost use Rattle.centres.specs.Firms.{cap_no, cap_own, firm_total, layer_over, over_cap, share_of};

@@ -43,7 +43,7 @@ pub trait Centre {
         ensures result { Reserved (own self.old) (lines self.old) account side lots (lines self.new) result }
         ensures settings { same_settings self.old self.new };
 
-    /// Moves lots of the grant from held to settled, and hands back a grant for the others.
+    /// Moves lots of the grant from held to settled. The lots that were not settled come back as a grant.
     fn settle(&mut self, grant: Grant, lots: u64) -> Result<Grant, Unsettled>
         ensures result { Settled (lines self.old) grant lots (lines self.new) result }
         ensures settings { same_settings self.old self.new };

@@ -5,8 +5,9 @@ ghost use Rattle.clearing.specs.Grant.{at_rest, grant_of};
 use crate::resting::Resting;
 use crate::side::Side;
 
-/// Lots of an account and side that are held and belong to no order yet. A grant comes from a reservation or out of a
-/// resting order, and ends by being settled, given back or put to rest. One that has lots cannot be let go.
+/// Lots of an account and side that are held and belong to no order yet (docs/CENTRE.md, section 5). It is made by a
+/// reservation, or from lots that an order had at rest. It cannot be let go before all its lots have been settled, have been
+/// given back, or rest again.
 pub struct Grant {
     account: i64,
     side: Side,

@@ -5,7 +5,6 @@
 mod day;
 mod order;
 
-use anyhow::anyhow;
 use centres::firm_cap::FirmCap;
 use centres::firm_table::FirmTable;
 use centres::position::Position;
@@ -65,8 +64,7 @@ fn both_days(rt: &HostRuntime) -> anyhow::Result<()> {
     println!(rt; "POSITION CENTRE UNDER TWO FIRM CAPS\n")?;
     whole_day(rt, Position, 50)?;
     println!(rt; "\nPREPAID CENTRE, MARGIN 200, UNDER TWO FIRM CAPS\n")?;
-    let rule = Prepaid::new(200).map_err(|_| anyhow!("the margin is out of range"))?;
-    whole_day(rt, rule, 10_000)
+    whole_day(rt, Prepaid::new(200)?, 10_000)
 }
 
 fn main(rt: HostRuntime) -> anyhow::Result<()> {

@@ -25,13 +25,13 @@ pub enum Refusal {
     PriceOutOfBand,
     /// 5: all order numbers, 1 to 999,999, have been given.
     NumbersUsedUp,
-    /// 6: the account's own order would stop the walk before any trade.
+    /// 6: the walk would come to an order of its own account and would have traded nothing by then.
     OwnOrderFirst,
-    /// 7: an entry in full or reject would not fill.
+    /// 7: an entry that is to trade whole or not at all would not trade whole.
     NotInFull,
-    /// 8: the walk would make more trades than the register, of 512 places, has room for.
+    /// 8: the register, of 512 places, has no room for all the trades of the walk.
     RegisterFull,
-    /// 9: a rest would join a queue that has its 64 orders.
+    /// 9: what is left of the entry has no place in its queue, of 64 orders.
     QueueFull,
     /// 10: no resting order has the number.
     NoSuchOrder,
@@ -41,14 +41,14 @@ pub enum Refusal {
     ReductionOutOfRange,
     /// 13: the centre's line of an account does not cover what the account has resting.
     OutOfStep,
-    /// 14: the centre says no to the entry's account, side and lots. Cause, 1 to 6, and depth, 0 to
-    /// 99, go with it (docs/CENTRE.md, section 2).
+    /// 14: the centre says no to the entry's account, side and lots. Cause and depth, 0 to 99, go with it
+    /// (docs/CENTRE.md, section 2). A market draws causes 1 to 4; the page has room for all six.
     CentreDenies(Denial),
     /// 15: a phrase text is not 28 lines, or one of its phrases is unsound (docs/PAGE.md, section 3).
     UnsoundText,
     /// 16: two phrases of a text are equal.
     SharedPhrase,
-    /// 17: a line to print into or to read back from has under 86 bytes.
+    /// 17: there are fewer than 86 bytes to print into, or to read back.
     LineTooShort,
     /// 18: a command line is not 37 bytes (docs/PAGE.md, section 1).
     CommandLength,

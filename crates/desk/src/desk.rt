@@ -131,14 +131,13 @@ impl<R: QueueRule, C: Centre> LineService for Desk<R, C> {
     ghost looks_next = { after_cut };
 
     fn answer(&mut self, number: u64, line: &[u8]) {
-        answer(
+        let _ = answer(
             &mut self.market,
             &self.table,
             number,
             line,
             &mut self.printed,
-        )
-        .unwrap();
+        );
     }
 
     fn printed(&self) -> &[u8] {

@@ -62,8 +62,8 @@ Outcomes of a command that is refused, and changes nothing:
   19 a letter of the command is not known
   20 a number of the command is malformed
 
-Cause of 14: 1 no line, 2 lots out of range, 3 own rule, 4 firm cap, 5 not
-held, 6 no such setting. Depth: 0 at the bottom, one more at each layer.
+Cause of 14: 1 no line, 2 lots out of range, 3 own rule, 4 firm cap. Depth: 0
+at the bottom, one more at each layer, 99 at most.
 
 Outcomes of a command that is accepted:
 

@@ -35,11 +35,10 @@ pub trait LineService {
     /// The number of the last line that the service answers.
     const LAST: u64;
 
-    /// Answers a line.
+    /// Answers a line. What is answered under a number above `LAST` is left open, but for what no answer changes.
     fn answer(&mut self, number: u64, line: &[u8])
-        requires { number ≤ LAST }
-        ensures shown { printed self.new ≡ shown (state self.old) number line.now }
-        ensures next { state self.new ≡ next (state self.old) line.now }
+        ensures shown { number ≤ LAST → printed self.new ≡ shown (state self.old) number line.now }
+        ensures next { number ≤ LAST → state self.new ≡ next (state self.old) line.now }
         ensures kept { kept self.old self.new };
 
     /// The answer to the last line.

@@ -1,4 +1,4 @@
--- The walk: an entry goes down the other queue from its first order. Assumes nothing.
+-- The walk of an entry: what it trades with, order after order, and how it ends. Assumes nothing.
 use Rattle.std.specs.Prelude.{ℕ, ◌-◌, Bool, false, cond, not, List, [], ◌∷◌, ◌-ℤ◌, ◌==◌, nat_le, unsigned_abs}
 use Rattle.ordered.specs.Key.{eq_z}
 use Rattle.dealing.specs.declared.call.Entry.{Entry}

@@ -14,7 +14,8 @@ pub struct Quote {
     pub number: u32,
 }
 
-// The implementor is the rule, so that a rule with settings of its own can be one.
+/// What a house says of orders (docs/FLOOR.md, section 4). The implementor is the rule, so that a rule with settings of its
+/// own can be one.
 pub trait QueueRule {
     // The rule's two tests, as definitions: what goes ahead of what in a queue, and which buys and sells can trade.
     ghost rule: { Self → Rule };
@@ -27,15 +28,15 @@ pub trait QueueRule {
     fn meet(&self, buy: Quote, sell: Quote) -> bool
         ensures { result ≡ (rule self.now).meets buy sell };
 
-    // No order stands before itself.
+    /// An order does not stand before itself.
     ghost irreflexive: { (r : Self) (x : Quote) → (rule r).stands x x ≡ false };
 
-    // What stands before an order stands before all that come after that one.
+    /// Standing before carries on from order to order.
     ghost transitive: { (r : Self) (x y z : Quote) → x.side ≡ y.side → y.side ≡ z.side → (rule r).stands x y ≡ true → (rule r).stands y z ≡ true → (rule r).stands x z ≡ true };
 
-    // Of two orders of a side with different numbers exactly one stands before the other.
+    /// Between two numbers on a side there is always a first and a second, and never two firsts.
     ghost decided: { (r : Self) (x y : Quote) → x.side ≡ y.side → (x.number ≢ y.number) → (rule r).stands x y ≡ not ((rule r).stands y x) };
 
-    // What meets an order meets all that stand before that one.
+    /// An order that can trade with one of a queue can trade with each that stands ahead of it there.
     ghost meeting: { (r : Self) (x a b : Quote) → a.side ≡ b.side → x.side ≡ other a.side → (rule r).stands a b ≡ true → meets_across (rule r) x.side x b ≡ true → meets_across (rule r) x.side x a ≡ true };
 }

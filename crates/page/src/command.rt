@@ -60,7 +60,7 @@ fn alone(head: Head, line: &[u8; COMMAND_LENGTH]) -> Option<Head>
     is_blank(&line[1..4]).then_some(head)
 }
 
-// The letter in column 1 names the call.
+// Which call the letters ask for: that of column 1 alone, or with the three after it.
 fn letters(line: &[u8; COMMAND_LENGTH]) -> Option<Head>
     ensures { result ≡ head_of line.now }
 {

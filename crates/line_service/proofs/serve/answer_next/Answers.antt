@@ -16,7 +16,7 @@ returns-then-line-clause-next g c =
     record {
       line = line;
       read = ConsumesLines-rest _ _ _ _ _ _ _ begun.bytes begun.within begun.read took c.if-line.true;
-      answers = Answers-cut g.S.LineService.shown g.S.LineService.next g.S.LineService.LONGEST g.met.S.LineService.looks_shown g.met.S.LineService.looks_next _ _ _ c.args.number line _ _ begun.state cut c.answer.ensures.next c.answer.ensures.shown;
+      answers = Answers-cut g.S.LineService.shown g.S.LineService.next g.S.LineService.LONGEST g.met.S.LineService.looks_shown g.met.S.LineService.looks_next _ _ _ c.args.number line _ _ begun.state cut (c.answer.ensures.next c.requires.number) (c.answer.ensures.shown c.requires.number);
     }
 
 pub returns-else-line-clause-next : goal.returns-else-line-clause-next
@@ -32,7 +32,7 @@ returns-else-line-clause-next g c =
       record {
         line = line;
         read = ConsumesLines-rest_at_end _ _ _ _ _ _ _ begun.bytes begun.within begun.read took c.if-line.false begun.some end;
-        answers = Answers-cut g.S.LineService.shown g.S.LineService.next g.S.LineService.LONGEST g.met.S.LineService.looks_shown g.met.S.LineService.looks_next _ _ _ c.args.number line _ _ begun.state cut c.answer.ensures.next c.answer.ensures.shown;
+        answers = Answers-cut g.S.LineService.shown g.S.LineService.next g.S.LineService.LONGEST g.met.S.LineService.looks_shown g.met.S.LineService.looks_next _ _ _ c.args.number line _ _ begun.state cut (c.answer.ensures.next c.requires.number) (c.answer.ensures.shown c.requires.number);
       },
       end_after _ _ _ begun.bytes begun.read end,
     )

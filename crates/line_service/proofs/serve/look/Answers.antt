@@ -18,7 +18,7 @@ returns-in-Some-clause-begun g c =
     record {
       line = take end shown;
       read = ConsumesLines-ended _ _ (take end shown) found.1 (subst (Consumes _ _) found.2 moved.0);
-      answers = Answers-cut g.S.LineService.shown g.S.LineService.next g.S.LineService.LONGEST g.met.S.LineService.looks_shown g.met.S.LineService.looks_next _ _ _ c.args.number (take end shown) _ _ refl (c.cut.ensures ∙ ap (λ k. take k (take end shown)) c.requires.looks) c.answer.ensures.next c.answer.ensures.shown;
+      answers = Answers-cut g.S.LineService.shown g.S.LineService.next g.S.LineService.LONGEST g.met.S.LineService.looks_shown g.met.S.LineService.looks_next _ _ _ c.args.number (take end shown) _ _ refl (c.cut.ensures ∙ ap (λ k. take k (take end shown)) c.requires.looks) (c.answer.ensures.next c.requires.number) (c.answer.ensures.shown c.requires.number);
     }
 
 pub returns-in-None-2-clause-begun : goal.returns-in-None-2-clause-begun
