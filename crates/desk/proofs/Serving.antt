@@ -1,5 +1,5 @@
 -- What the desk shows and leaves, where a line was answered. Assumes nothing.
-use Rattle.std.proofs.Common.{◌≡◌, ℕ, ◌+◌, ◌++◌, ◌∷◌, [], List, Some, None, Ok, Err, Option, Result, length, drop, refl, sym, ap, ap₂, ◌∙◌, arith, length-append}
+use Rattle.std.proofs.Common.{◌≡◌, ℕ, ◌++◌, ◌∷◌, [], List, Ok, Err, Result, length, drop, refl, sym, ap, ap₂, ◌∙◌, arith, length-append}
 use Rattle.std.specs.Prelude.{unwrap_or}
 use Rattle.std.proofs.lemmas.List.{drop_at}
 use Rattle.clearing.specs.Centre.{Lines, Own}
@@ -7,11 +7,10 @@ use Rattle.dealing.specs.Replies.{Reply}
 use Rattle.dealing.specs.declared.call.Call.{Call}
 use Rattle.dealing.specs.declared.refusal.Refusal.{Refusal}
 use Rattle.desk.specs.Desk.{Called, Dealt, Shown, page_line}
-use Rattle.desk.specs.Served.{DeskState, after, dealt, desk_of, left_by, shown}
+use Rattle.desk.specs.Served.{after, dealt, desk_of, left_by, shown}
 use Rattle.market.specs.BookState.{state_of}
 use Rattle.market.specs.Calls.{Done, done}
 use Rattle.market.specs.Rule.{Rule}
-use Rattle.market.specs.declared.book.Book.{Book}
 use Rattle.market.specs.declared.market.Market.{Market}
 use Rattle.market.specs.declared.standing.ByRule.{ByRule}
 use Rattle.page.specs.Command.{read_command}

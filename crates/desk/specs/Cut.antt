@@ -1,5 +1,5 @@
 -- A command has 37 bytes, so that of a longer line 38 bytes tell what it comes to. Assumes nothing.
-use Rattle.std.specs.Prelude.{◌≡◌, ◌≢◌, ℕ, ◌<◌, ◌≤◌, List, Err, length, take, unwrap_or, [], ◌∷◌, ◌++◌}
+use Rattle.std.specs.Prelude.{◌≡◌, ◌≢◌, ℕ, List, Err, length, take, unwrap_or, [], ◌∷◌, ◌++◌}
 use Rattle.std.proofs.Common.{inl, inr, sym, ap, ◌∙◌, ltb, arith, take_all}
 use Rattle.std.proofs.lemmas.Bool.{cases_Bool, cond-false, ltb-false, ltb-true, ne_eqb}
 use Rattle.std.proofs.lemmas.List.{length-take}

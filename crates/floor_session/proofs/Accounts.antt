@@ -1,5 +1,5 @@
 -- Accounts come to a centre one after another. Assumes nothing.
-use Rattle.std.proofs.Common.{◌≡◌, ℕ, ◌+◌, [], None, true, false, not, ◌&&◌, length, ℤ, is_some, Ok, Err, Option, Result, refl, sym, ap, ap₂, ◌∙◌}
+use Rattle.std.proofs.Common.{◌≡◌, ℕ, ◌+◌, [], None, true, not, ◌&&◌, length, ℤ, is_some, Ok, Err, Option, Result, refl, sym, ap, ap₂, ◌∙◌}
 use Rattle.std.specs.Prelude.{IsOk, nat_le, nat_lt}
 use Rattle.std.proofs.lemmas.Bool.{true≢false}
 use Rattle.clearing.specs.Account.{account_fits}

@@ -1,5 +1,5 @@
 -- The line has room in the desk's own bytes, so that it is answered; above the last number nothing changes.
-use Rattle.std.proofs.Common.{◌≡◌, ◌≤◌, ◌∷◌, [], drop, length, inl, inr, ltb, refl, ap, subst, ◌∙◌, arith}
+use Rattle.std.proofs.Common.{◌≡◌, ◌≤◌, ◌∷◌, [], drop, length, inl, inr, ltb, refl, ap, ◌∙◌, arith}
 use Rattle.std.proofs.lemmas.Bool.{cases_Bool, ltb-false, ltb-true}
 use Rattle.desk.proofs.Serving.{desk_after, shown_after, stayed, still_ended}
 use Rattle.page.specs.Command.{read_command}
