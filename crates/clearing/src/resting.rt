@@ -6,7 +6,8 @@ use crate::grant::Grant;
 use crate::side::Side;
 
 /// The lots of a resting order: what a grant becomes when it is put to rest. Neither can be copied, so each lot that is
-/// held is in one place. It goes with its order, and is let go only with it.
+/// held is in one place. Unlike a grant it can be let go, as with its order when a market ends: what it had then stays held
+/// at the centre, and nothing is left by which it could be given back.
 #[derive(Drop)]
 pub struct Resting {
     account: i64,
