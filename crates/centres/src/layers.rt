@@ -68,9 +68,9 @@ impl<C: Centre> Layers<C> {
         Ok(())
     }
 
-    /// Places an account in a firm of the highest layer.
+    /// Places an account in a firm of the highest layer. With no layer it is cause 6, at the depth of the centre below.
     pub fn place(&mut self, account: i64, firm: u64) -> Result<(), Denial>
-        ensures { PlacedOnTop (depth_over self.old.tables.items (C.Centre.depth self.old.below)) self.old account firm self.new result }
+        ensures { PlacedOnTop (C.Centre.depth self.old.below) self.old account firm self.new result }
     {
         let depth = self.depth();
         let Some(top) = self.tables.last_mut() else {
@@ -80,9 +80,9 @@ impl<C: Centre> Layers<C> {
             .map_err(|cause| Denial::new(cause, depth))
     }
 
-    /// Sets the cap of a firm of the highest layer.
+    /// Sets the cap of a firm of the highest layer. With no layer it is cause 6, at the depth of the centre below.
     pub fn set_cap(&mut self, firm: u64, cap: u64) -> Result<(), Denial>
-        ensures { CapSetOnTop (depth_over self.old.tables.items (C.Centre.depth self.old.below)) self.old firm cap self.new result }
+        ensures { CapSetOnTop (C.Centre.depth self.old.below) self.old firm cap self.new result }
     {
         let depth = self.depth();
         let Some(top) = self.tables.last_mut() else {
@@ -133,7 +133,7 @@ impl<C: Centre> Centre for Layers<C> {
 
     fn depth(&self) -> u8 {
         let mut depth = self.below.depth();
-        for _firms in &self.tables {
+        for _ in &self.tables {
             depth = one_up(depth);
         }
         depth
