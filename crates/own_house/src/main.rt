@@ -51,7 +51,8 @@ fn show_day(rt: &HostRuntime) -> anyhow::Result<()> {
     let calls = day();
     let ran = run_house(rt.alloc(), &calls)?;
     let shown = show_ran(rt, &calls, &ran);
-    let _centre = ran.market.close();
+    let Ran { market, replies: _ } = ran;
+    let _centre = market.close();
     Ok(shown?)
 }
 
