@@ -87,6 +87,41 @@ kind_named c s =
 abbrev pub kind_of : Members → Option Kind
 kind_of c = option_and_then (kind_named c) (option_and_then as_str (get_member (codes "kind") c))
 
+-- the table of entries at a key
+abbrev pub entries_in : List ℕ → Members → Option (List Entry)
+entries_in k ms = option_and_then entries_of (table_in k ms)
+
+-- a firm cap: its members and its caps, and nothing else
+abbrev pub layer_in : Members → Option CapText
+layer_in l =
+    option_and_then (λ _. option_and_then (λ ms. option_map (cap_text ms) (entries_in (codes "caps") l)) (entries_in (codes "members") l))
+    (when (only (is_among (codes "members" ∷ codes "caps" ∷ [])) l))
+
+abbrev pub layer_of : Data → Option CapText
+layer_of d = option_and_then layer_in (as_table d)
+
+-- the firm caps, one after another
+abbrev pub layers_from : Items → Option (List CapText)
+layers_from no_items = Some []
+layers_from (item d ds) = option_and_then (λ l. before l (layers_from ds)) (layer_of d)
+
+-- none, or a list of them
+abbrev pub layers_of : Option Data → Option (List CapText)
+layers_of None = Some []
+layers_of (Some d) = option_and_then layers_from (as_array d)
+
+-- the centre c and the firm caps over it, with the rule
+abbrev pub house_with : Members → HouseRule → Members → Option Written
+house_with doc r c =
+    option_and_then (λ k. option_and_then (λ es. option_map (written r k es) (layers_of (get_member (codes "cap") doc))) (entries_in (codes "accounts") c))
+    (kind_of c)
+
+-- the whole document
+abbrev pub settings_of : Members → Option Written
+settings_of doc =
+    option_and_then (λ _. option_and_then (λ r. option_and_then (house_with doc r) (table_in (codes "centre") doc)) (rule_of doc))
+    (when (only (is_among (codes "instrument" ∷ codes "centre" ∷ codes "cap" ∷ [])) doc))
+
 -- what was read so far, before the rest, where there is a rest
 abbrev pub after : {A : Type 0} → List A → Option (List A) → Option (List A)
 after xs o = option_map (λ ys. xs ++ ys) o

@@ -1,11 +1,11 @@
 // A TOML document read to what it says of a house.
-ghost use Rattle.house.specs.Document.{entries_of, kind_of, margin_in, number_of, numbered, only, rule_of, table_in, when};
+ghost use Rattle.house.specs.Document.{entries_in, entries_of, kind_of, layer_of, layers_from, layers_of, margin_in, number_of, numbered, only, rule_of, settings_of, table_in, when};
 ghost use Rattle.house.specs.Settings.{layer_view, settings_view};
 ghost use Rattle.house.specs.Stop.{Reads};
 ghost use Rattle.std.specs.List.{list_any};
-ghost use Rattle.std.specs.Prelude.{◌≡◌, bytes_eq, option_map};
+ghost use Rattle.std.specs.Prelude.{◌≡◌, bytes_eq, codes, map, option_map};
 ghost use Rattle.toml.specs.Data.{get_member};
-ghost use Rattle.toml.specs.View.{array_view, table_view, view};
+ghost use Rattle.toml.specs.View.{items_view, table_view, view};
 
 use crate::error::Expected;
 use crate::place::Section;
@@ -178,4 +178,96 @@ fn kind(heap: Global, centre: &Table) -> Result<Kind, Stop>
         }
         _ => Err(Stop::at(heap, Section::Centre, "kind", Expected::Kind)),
     }
+}
+
+// The table of entries at a key.
+fn entries_at(
+    heap: Global,
+    table: &Table,
+    section: Section,
+    key: &'static str,
+    inner: Section,
+    expected: Expectations,
+) -> Result<Vec<Entry>, Stop>
+    ensures { Reads (λ es. es.items) (entries_in key.now (table_view table.now)) result }
+{
+    let found = table_at(heap, table, section, key)?;
+    entries(heap, found, inner, expected)
+}
+
+// A firm cap.
+fn layer(heap: Global, value: &Value, nth: usize) -> Result<Layer, Stop>
+    ensures { Reads layer_view (layer_of (view value.now)) result }
+{
+    let section = Section::Layer(nth);
+    let Some(table) = value.as_table() else {
+        return Err(Stop::at(heap, section, "", Expected::Table));
+    };
+    check_keys(heap, table, section, &["members", "caps"], "members, caps")?;
+    let firms = Expectations {
+        number: Expected::Account,
+        value: Expected::Firm,
+    };
+    let members = entries_at(heap, table, section, "members", Section::Members(nth), firms)?;
+    let limits = Expectations {
+        number: Expected::Firm,
+        value: Expected::Cap,
+    };
+    let caps = entries_at(heap, table, section, "caps", Section::Caps(nth), limits)?;
+    Ok(Layer { members, caps })
+}
+
+// The firm caps of a list.
+fn layers_in(heap: Global, values: &[Value]) -> Result<Vec<Layer>, Stop>
+    ensures { Reads (λ ls. map layer_view ls.items) (layers_from (items_view values.now)) result }
+{
+    let mut read = Vec::new(heap);
+    for value in values {
+        let nth = read.len().saturating_add(1);
+        read.push(layer(heap, value, nth)?)?;
+    }
+    Ok(read)
+}
+
+// The firm caps of a document; none where it has no such key.
+fn layers(heap: Global, document: &Table) -> Result<Vec<Layer>, Stop>
+    ensures { Reads (λ ls. map layer_view ls.items) (layers_of (get_member (codes "cap") (table_view document.now))) result }
+{
+    let Some(value) = value_at(document, "cap") else {
+        return Ok(Vec::new(heap));
+    };
+    match value.as_array() {
+        Some(values) => layers_in(heap, values.as_slice()),
+        None => Err(Stop::at(heap, Section::Document, "cap", Expected::Tables)),
+    }
+}
+
+// The accounts of a centre of this kind.
+fn accounts(heap: Global, centre: &Table, kind: Kind) -> Result<Vec<Entry>, Stop>
+    ensures { Reads (λ es. es.items) (entries_in (codes "accounts") (table_view centre.now)) result }
+{
+    let expected = Expectations {
+        number: Expected::Account,
+        value: kind.allowance(),
+    };
+    entries_at(heap, centre, Section::Centre, "accounts", Section::Accounts, expected)
+}
+
+/// What a document says of a house.
+pub(crate) fn settings(heap: Global, document: &Table) -> Result<Settings, Stop>
+    ensures { Reads settings_view (settings_of (table_view document.now)) result }
+{
+    let keys = ["instrument", "centre", "cap"];
+    check_keys(heap, document, Section::Document, &keys, "instrument, centre, cap")?;
+    let rule = rule(heap, document)?;
+    let centre = table_at(heap, document, Section::Document, "centre")?;
+    let kind = kind(heap, centre)?;
+    let accounts = accounts(heap, centre, kind)?;
+    let layers = layers(heap, document)?;
+    Ok(Settings {
+        rule,
+        kind,
+        accounts,
+        layers,
+    })
 }

@@ -1,4 +1,5 @@
 // What the text of a house's settings says, as plain values: nothing here is within its range yet.
+use crate::error::Expected;
 use crate::rule::HouseRule;
 
 /// A number under a number, as it is written: an account's limit, deposit or firm, or a firm's cap.
@@ -17,6 +18,16 @@ pub enum Kind {
     Position,
     /// Prepaid, with the margin for each lot.
     Prepaid(i64),
+}
+
+impl Kind {
+    // What is set for each account.
+    pub(crate) fn allowance(self) -> Expected {
+        match self {
+            Kind::Position => Expected::Limit,
+            Kind::Prepaid(_) => Expected::Deposit,
+        }
+    }
 }
 
 /// A firm cap: the firm of each member, and the cap of each firm.
