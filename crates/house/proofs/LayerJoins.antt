@@ -39,8 +39,7 @@ pub with_all : (b c d e : HouseCentre) (l : CapText) (r : Result (Unit {0}) Stop
 with_all b c d e l (Ok x) new under below (fit, firms, caps, (there, under', below')) (fit', caps', members, (there', under'', below'')) =
     let fits : members_fit l.members 0 (λ a. None) ≡ true = rw new.members at fit in
     let placed : firm_of (top_members d) ≡ with_values l.members (λ a. None) = rw new.members at firms in
-    let set : top_caps e ≡ with_caps l.caps (replicate 8 0) = rw (caps, new.caps) at caps' in
-    (
+    let set : top_caps e ≡ with_caps l.caps (replicate 8 0) = rw (caps, new.caps) at caps' in (
       rw (fits, fit') refl,
       is_layer (top_of e.tables.items) l there' (ap firm_of members ∙ placed) set,
       under'' ∙ under' ∙ under,
