@@ -1,7 +1,7 @@
 -- A house from its parts. Assumes nothing.
-use Rattle.std.proofs.Common.{◌≡◌, ℕ, Bool, true, false, ◌&&◌, List, [], length, Some, None, Ok, Err, Option, Result, refl, sym, ap, ◌∙◌, rules}
+use Rattle.std.proofs.Common.{◌≡◌, true, false, [], Some, None, Ok, Err, refl, sym, ap, ◌∙◌}
 use Rattle.clearing.specs.Ledger.{allowances_of, lines_of}
-use Rattle.house.specs.Built.{AccountsAdded, LayersBuilt, accounts_fit, layers_fit, margin_said, with_lines, with_values}
+use Rattle.house.specs.Built.{AccountsAdded, LayersBuilt, accounts_fit, margin_said, with_lines, with_values}
 use Rattle.house.specs.House.{Base, HouseCentre, margin_of, rows_of}
 use Rattle.house.specs.Read.{HouseMade, fits}
 use Rattle.house.specs.Settings.{Written}

@@ -1,5 +1,5 @@
 -- What is printed of a place and of what was expected there. Assumes nothing.
-use Rattle.std.specs.Prelude.{ℕ, Bool, true, false, cond, List, [], ◌∷◌, ◌++◌, codes, string_bytes, string_len, ◌==◌}
+use Rattle.std.specs.Prelude.{ℕ, cond, List, [], ◌++◌, codes, string_bytes, string_len, ◌==◌}
 use Rattle.std.specs.Fmt.{decimal}
 use Rattle.house.specs.declared.error.Expected.{Expected}
 use Rattle.house.specs.declared.error.Expected.TheVariants as want
