@@ -1,0 +1,6 @@
+pub mod Numbers
+pub mod Readings
+pub mod AccountSteps
+pub mod LayerSteps
+pub mod LayerJoins
+pub mod Houses
