@@ -1,0 +1,4 @@
+//! Scenarios: the settings of a house and calls in words, carried out line by line, each shown with its answer.
+#![tactic(auto)]
+
+pub mod words;
