@@ -12,6 +12,39 @@ use clearing::grant::Grant;
 use clearing::line::Line;
 use clearing::side::Side;
 
+// What a member adds to a firm: all four counts of its line, if it is in that firm. A missing line counts 0.
+fn share<C: Centre>(centre: &C, member: &Member, firm: u64) -> u128
+    ensures value { result ≡ share_of (C.Centre.lines centre.now) member.now firm }
+    ensures bound { result < 2 ^ 66 }
+{
+    if member.firm != firm {
+        return 0;
+    }
+    centre.line(member.account).map_or(0, |line| line.total())
+}
+
+// The counts of all accounts of a firm.
+fn total<C: Centre>(centre: &C, firms: &FirmTable, firm: u64) -> u128
+    ensures { result ≡ firm_total (C.Centre.lines centre.now) firms.now.members firm }
+{
+    firms
+        .members()
+        .iter()
+        .map(|member| share(centre, member, firm))
+        .sum()
+}
+
+// Whether the account's firm would pass its cap with the new lots.
+pub(crate) fn is_over<C: Centre>(centre: &C, firms: &FirmTable, account: i64, lots: u64) -> bool
+    ensures { result ≡ over_cap (C.Centre.lines centre.now) firms.now.members firms.now.caps account lots }
+{
+    firms.firm(account).is_some_and(|firm| {
+        // A sum that saturates is past any cap too.
+        let all = total(centre, firms, firm).saturating_add(u128::from(lots));
+        all > u128::from(firms.cap(firm))
+    })
+}
+
 #[derive(Drop)]
 pub struct FirmCap<C> {
     below: C,
@@ -60,46 +93,11 @@ impl<C: Centre> FirmCap<C> {
             .map_err(|cause| Denial::new(cause, self.layer()))
     }
 
-    // What a member adds to a firm: all four counts of its line, if it is in that firm. A missing line counts 0.
-    fn share(&self, member: &Member, firm: u64) -> u128
-        ensures value { result ≡ share_of (C.Centre.lines self.now.below) member.now firm }
-        ensures bound { result < 2 ^ 66 }
-    {
-        if member.firm != firm {
-            return 0;
-        }
-        self.below
-            .line(member.account)
-            .map_or(0, |line| line.total())
-    }
-
-    // The counts of all accounts of a firm.
-    fn total(&self, firm: u64) -> u128
-        ensures { result ≡ firm_total (C.Centre.lines self.now.below) self.now.firms.members firm }
-    {
-        self.firms
-            .members()
-            .iter()
-            .map(|member| self.share(member, firm))
-            .sum()
-    }
-
-    // Whether the account's firm would pass its cap with the new lots.
-    fn is_over(&self, account: i64, lots: u64) -> bool
-        ensures { result ≡ over_cap (C.Centre.lines self.now.below) self.now.firms.members self.now.firms.caps account lots }
-    {
-        self.firms.firm(account).is_some_and(|firm| {
-            // A sum that saturates is past any cap too.
-            let all = self.total(firm).saturating_add(u128::from(lots));
-            all > u128::from(self.firms.cap(firm))
-        })
-    }
-
     // A no by cause 4, where the account's firm would pass its cap with the new lots.
     fn within_cap(&self, account: i64, lots: u64) -> Result<(), Denial>
         ensures { result ≡ answered (cap_no (C.Centre.lines self.now.below) self.now.firms.members self.now.firms.caps (layer_over (C.Centre.depth self.now.below)) account lots) }
     {
-        if self.is_over(account, lots) {
+        if is_over(&self.below, &self.firms, account, lots) {
             return Err(Denial::new(Cause::OverFirmCap, self.layer()));
         }
         Ok(())

@@ -2,10 +2,12 @@
 ghost use Rattle.std.specs.Prelude.{◌≡◌, ℕ, [], IfOk, Ok};
 ghost use Rattle.clearing.specs.AccountCentre.{AddedTo, Judged, PartSettled, SameAllowances, account_own};
 ghost use Rattle.clearing.specs.Grant.{grant_of};
-ghost use Rattle.clearing.specs.Ledger.{Adjusted, allowances_of, lines_of};
+ghost use Rattle.clearing.specs.Ledger.{Adjusted, account_of, allowances_of, lines_of};
 ghost use Rattle.clearing.specs.Line.{hold};
 ghost use Rattle.clearing.specs.Verdicts.{sound_lines};
 ghost use Rattle.std.proofs.Common.{rules};
+ghost use Rattle.std.specs.List.{slice_get};
+ghost use Rattle.std.specs.Option.{option_map};
 
 use crate::account_rule::AccountRule;
 use crate::cause::{Cause, Denial};
@@ -47,6 +49,20 @@ impl<R: AccountRule + Drop> AccountCentre<R> {
         ensures { result ≡ allowances_of self.now.ledger.rows account }
     {
         self.ledger.allowance(account)
+    }
+
+    /// The account that stands at a place, the smallest at 0: places go up by account, and none is left out.
+    pub fn account_at(&self, at: usize) -> Option<i64>
+        ensures { result ≡ option_map account_of (slice_get self.now.ledger.rows at) }
+    {
+        self.ledger.account_at(at)
+    }
+
+    /// The rule, so that a house can show its settings.
+    pub fn rule(&self) -> &R
+        ensures { result.now ≡ self.now.rule }
+    {
+        &self.rule
     }
 
     // Where the account's row is, if the lots would be reserved.

@@ -7,6 +7,8 @@ ghost use Rattle.clearing.specs.Line.{hold, in_range, release, settle};
 ghost use Rattle.clearing.specs.declared.account_line.AccountLine.{AccountLine};
 ghost use Rattle.clearing.specs.declared.cause.Cause.TheVariants.{BadSetting};
 ghost use Rattle.ordered.specs.Row.{Found, at_key, in_order};
+ghost use Rattle.std.specs.List.{slice_get};
+ghost use Rattle.std.specs.Option.{option_map};
 
 use crate::account::is_account;
 use crate::account_line::AccountLine;
@@ -46,6 +48,13 @@ impl Ledger {
         ensures { result ≡ slice_index_or self.now.rows at result }
     {
         self.rows.as_slice()[at]
+    }
+
+    // The account of the row at a place, where there is one.
+    pub(crate) fn account_at(&self, at: usize) -> Option<i64>
+        ensures { result ≡ option_map account_of (slice_get self.now.rows at) }
+    {
+        self.rows.as_slice().get(at).map(|row| row.account)
     }
 
     // The row of an account, where it has one.

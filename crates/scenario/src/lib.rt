@@ -1,4 +1,6 @@
 //! Scenarios: the settings of a house and calls in words, carried out line by line, each shown with its answer.
 #![tactic(auto)]
 
+pub mod answer;
+pub mod state;
 pub mod words;

@@ -1,0 +1,5 @@
+pub mod Document
+pub mod Rule
+pub mod Settings
+pub mod Stop
+pub mod Words
