@@ -1,20 +1,14 @@
--- An order, a trade and a line as a scenario shows them. Assumes nothing.
+-- An order and a line as a scenario shows them. Assumes nothing.
 use Rattle.std.specs.Prelude.{ℕ, List, ◌++◌, codes}
 use Rattle.std.specs.Fmt.{decimal, signed_decimal}
 use Rattle.clearing.specs.declared.line.Counts.{Counts}
 use Rattle.market.specs.Order.{account_of, lots_of}
 use Rattle.market.specs.declared.order.Order.{Order}
-use Rattle.market.specs.declared.trade.Trade.{Trade}
-use Rattle.scenario.specs.Parties.{party_text}
 use Rattle.scenario.specs.declared.state.Row.{Row}
 
 -- NUMBER:ACCOUNT@PRICExLOTS
 abbrev pub order_text : Order → List ℕ
 order_text o = decimal o.number ++ codes ":" ++ signed_decimal (account_of o) ++ codes "@" ++ signed_decimal o.price ++ codes "x" ++ decimal (lots_of o)
-
--- the buy, the sell, the price and the lots
-abbrev pub trade_text : Trade → List ℕ
-trade_text t = party_text t.buy ++ party_text t.sell ++ codes "@" ++ signed_decimal t.price ++ codes " x" ++ decimal t.lots
 
 -- held and settled
 abbrev pub counts_text : Counts → List ℕ

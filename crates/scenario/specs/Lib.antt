@@ -2,8 +2,8 @@ pub mod Answers
 pub mod Asked
 pub mod Items
 pub mod Messages
-pub mod Parties
 pub mod Replies
 pub mod Shown
 pub mod States
 pub mod Texts
+pub mod Trades

@@ -4,7 +4,8 @@ use Rattle.std.specs.Fmt.{decimal, signed_decimal}
 use Rattle.market.specs.State.{State}
 use Rattle.market.specs.declared.period.Period.{Period}
 use Rattle.market.specs.declared.period.Period.TheVariants.{Unopened, Trading, Suspended}
-use Rattle.scenario.specs.Items.{order_text, trade_text}
+use Rattle.scenario.specs.Items.{order_text}
+use Rattle.scenario.specs.Trades.{trade_text}
 use Rattle.scenario.specs.Shown.{each, listed}
 
 -- the buys and the sells, from first to last

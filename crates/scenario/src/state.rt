@@ -1,6 +1,5 @@
 //! The state of a market and its centre, in the words of a scenario.
 ghost use Rattle.market.specs.BookState.{state_of};
-ghost use Rattle.scenario.specs.Parties.{party_text};
 ghost use Rattle.scenario.specs.Shown.{each, listed};
 ghost use Rattle.scenario.specs.States.{book_text, market_text, period_text, trades_text};
 ghost use Rattle.std.specs.Io.KnownBytes.{Appends};
@@ -14,8 +13,8 @@ use market::order::Order;
 use market::period::Period;
 use market::rule::QueueRule;
 use market::trade::{Party, Trade};
-use std::io;
 use std::io::Write;
+use std::{fmt, io};
 
 // What stands in a list.
 trait Item {
@@ -42,21 +41,30 @@ impl Item for Order {
     }
 }
 
-fn show_party<W: Write>(out: &mut W, party: Party) -> io::Result<()>
-    ensures { OnOk result (Appends (W.contents out.old) (W.contents out.new) (party_text party)) }
-{
-    write!(out, "{}:{} ", party.number, party.account)
+// One of the two orders of a trade.
+#[derive(Clone, Copy)]
+struct ShownParty(Party);
+
+impl fmt::Display for ShownParty {
+    ghost use Rattle.scenario.specs.Trades.{party_text};
+    ghost use Rattle.std.specs.Prelude.{Some};
+
+    ghost output = { λ shown. Some (party_text shown.0) };
+
+    fn fmt<W: fmt::Write>(&self, f: &mut fmt::Formatter<W>) -> fmt::Result {
+        write!(f, "{}:{}", self.0.number, self.0.account)
+    }
 }
 
 impl Item for Trade {
-    ghost use Rattle.scenario.specs.Items.{trade_text};
+    ghost use Rattle.scenario.specs.Trades.{trade_text};
 
     ghost text = { trade_text };
 
     fn show<W: Write>(&self, out: &mut W) -> io::Result<()> {
-        show_party(out, self.buy)?;
-        show_party(out, self.sell)?;
-        write!(out, "@{} x{}", self.price, self.lots)
+        let buy = ShownParty(self.buy);
+        let sell = ShownParty(self.sell);
+        write!(out, "{buy} {sell} @{} x{}", self.price, self.lots)
     }
 }
 
