@@ -1,4 +1,5 @@
 pub mod Document
+pub mod House
 pub mod Rule
 pub mod Settings
 pub mod Stop
