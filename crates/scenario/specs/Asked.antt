@@ -1,5 +1,5 @@
 -- What the words of a line ask for, or what was expected at the first one that is wrong. Assumes nothing.
-use Rattle.std.specs.Prelude.{ℕ, Bool, cond, false, List, ℤ, pos, Ok, Err, Some, None, Option, Result, bytes_eq, codes, drop, int_le, is_some, unsigned_abs}
+use Rattle.std.specs.Prelude.{ℕ, ◌-◌, Bool, cond, false, List, ℤ, pos, Ok, Err, Some, None, Option, Result, bytes_eq, codes, drop, int_le, is_some, unsigned_abs}
 use Rattle.ordered.specs.Key.{eq_z}
 use Rattle.clearing.specs.declared.side.Side.{Side}
 use Rattle.clearing.specs.declared.side.Side.TheVariants.{Buy, Sell}
@@ -89,12 +89,13 @@ named w ws =
 abbrev pub call_of : List (List ℕ) → Result Call Expected
 call_of ws = then (instrument (word_at ws 0)) (λ _. named (word_at ws 1) ws)
 
-abbrev pub at_least_one : Option ℤ → Result ℕ Expected
-at_least_one None = Err expected.Times
-at_least_one (Some z) = cond (int_le (pos 1) z) (Ok (unsigned_abs z)) (Err expected.Times)
+-- how many times more than once
+abbrev pub more_than_once : Option ℤ → Result ℕ Expected
+more_than_once None = Err expected.Times
+more_than_once (Some z) = cond (int_le (pos 1) z) (Ok (unsigned_abs z - 1)) (Err expected.Times)
 
-abbrev pub times_of : List ℕ → Result ℕ Expected
-times_of w = at_least_one (number_of w)
+abbrev pub again_of : List ℕ → Result ℕ Expected
+again_of w = more_than_once (number_of w)
 
 abbrev pub view_of : List ℕ → Result View Expected
 view_of w =
@@ -107,9 +108,9 @@ view_of w =
 -- times N CALL
 abbrev pub repeated_of : List (List ℕ) → Result Asked Expected
 repeated_of ws =
-    then (times_of (word_at ws 1)) (λ times.
+    then (again_of (word_at ws 1)) (λ n.
     then (call_of (drop 2 ws)) (λ call.
-    Ok (Do (action.Call times call))))
+    Ok (Do (action.Call call n))))
 
 -- account ACCOUNT SETTING
 abbrev pub account_of : List (List ℕ) → Result Asked Expected
@@ -140,7 +141,7 @@ shown_of ws = then (view_of (word_at ws 1)) (λ v. of_instrument v ws)
 abbrev pub called_of : List (List ℕ) → Result Asked Expected
 called_of ws =
     cond (is_some (number_of (word_at ws 0)))
-    (then (call_of ws) (λ call. Ok (Do (action.Call 1 call))))
+    (then (call_of ws) (λ call. Ok (Do (action.Call call 0))))
     (Err expected.Start)
 
 -- a line by its first word

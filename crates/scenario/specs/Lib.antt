@@ -1,5 +1,7 @@
+pub mod Again
 pub mod Answers
 pub mod Asked
+pub mod Carried
 pub mod Items
 pub mod Messages
 pub mod Replies

@@ -2,5 +2,6 @@
 #![tactic(auto)]
 
 pub mod answer;
+pub mod carry;
 pub mod state;
 pub mod words;

@@ -1,6 +1,6 @@
 //! What a line of a scenario asks for.
 ghost use Rattle.scenario.specs.Texts.{alone, number_of, number_or, texts, word_at, words_of};
-ghost use Rattle.scenario.specs.Asked.{account_of, asked, call_of, called_of, entry_of, firm_of, instrument, kind_of, opening_of, reduction_of, repeated_of, rest_of, shown_of, side_of, times_of, view_of, withdrawal_of};
+ghost use Rattle.scenario.specs.Asked.{account_of, again_of, asked, call_of, called_of, entry_of, firm_of, instrument, kind_of, opening_of, reduction_of, repeated_of, rest_of, shown_of, side_of, view_of, withdrawal_of};
 ghost use Rattle.scenario.specs.Messages.{expected_text};
 ghost use Rattle.std.specs.Prelude.{◌≡◌, ◌<◌, IfOk, Some};
 
@@ -26,8 +26,8 @@ pub enum View {
 /// What is done in a house.
 #[derive(Clone, Copy, PartialEq, Eq, Debug)]
 pub enum Action {
-    /// A call to the market, made so many times, 1 or more.
-    Call { times: u64, call: Call },
+    /// A call to the market, made once and then so many times again.
+    Call { call: Call, again: u64 },
     /// Adds an account with its limit or its deposit.
     Account { account: i64, setting: i64 },
     /// Sets the cap of a firm, in the top layer.
@@ -225,11 +225,12 @@ fn call_of(words: &[&str]) -> Result<Call, Expected>
     }
 }
 
-fn times_of(word: &str) -> Result<u64, Expected>
-    ensures { result ≡ times_of word.now }
+// How many times more than once.
+fn again_of(word: &str) -> Result<u64, Expected>
+    ensures { result ≡ again_of word.now }
 {
     match number_of(word) {
-        Some(times) if times >= 1 => Ok(times.unsigned_abs()),
+        Some(times) if times >= 1 => Ok(times.unsigned_abs() - 1),
         _ => Err(Expected::Times),
     }
 }
@@ -249,12 +250,12 @@ fn view_of(word: &str) -> Result<View, Expected>
 fn repeated(words: &[&str]) -> Result<Asked, Expected>
     ensures { result ≡ repeated_of (texts words.now) }
 {
-    let times = times_of(word_at(words, 1))?;
+    let again = again_of(word_at(words, 1))?;
     let call = match words.get(2..) {
         Some(call) => call_of(call)?,
         None => return Err(Expected::Instrument),
     };
-    Ok(Asked::Do(Action::Call { times, call }))
+    Ok(Asked::Do(Action::Call { call, again }))
 }
 
 fn account(words: &[&str]) -> Result<Asked, Expected>
@@ -295,7 +296,7 @@ fn called(words: &[&str]) -> Result<Asked, Expected>
         return Err(Expected::Start);
     }
     let call = call_of(words)?;
-    Ok(Asked::Do(Action::Call { times: 1, call }))
+    Ok(Asked::Do(Action::Call { call, again: 0 }))
 }
 
 /// What the words of a line ask for, or what was expected at the first word that cannot be read.
