@@ -4,6 +4,7 @@ ghost use Rattle.clearing.specs.Ledger.{account_of, allowances_of};
 ghost use Rattle.std.specs.List.{slice_get};
 ghost use Rattle.std.specs.Prelude.{◌≡◌, option_map};
 
+use crate::settings::Entry;
 use centres::either::Either;
 use centres::layers::Layers;
 use centres::{PositionCentre, PrepaidCentre};
@@ -17,21 +18,22 @@ pub type BaseCentre = Either<PositionCentre, PrepaidCentre>;
 pub type HouseCentre = Layers<BaseCentre>;
 
 // A setting as a number from 0 up.
-fn from_zero(setting: i64) -> Option<u64>
+pub(crate) fn from_zero(setting: i64) -> Option<u64>
     ensures { result ≡ from_zero setting }
 {
     u64::try_from(setting).ok()
 }
 
-fn add(base: &mut BaseCentre, account: i64, setting: i64) -> Result<(), Denial>
-    ensures { AddedToBase base.old account setting base.new result }
+// Adds the account of an entry. By cause 6 nothing changes.
+pub(crate) fn add(base: &mut BaseCentre, entry: &Entry) -> Result<(), Denial>
+    ensures { AddedToBase base.old entry.now.number entry.now.value base.new result }
 {
-    let Some(setting) = from_zero(setting) else {
+    let Some(setting) = from_zero(entry.value) else {
         return Err(Denial::new(Cause::BadSetting, 0));
     };
     match base {
-        Either::First(centre) => centre.add(account, setting),
-        Either::Second(centre) => centre.add(account, setting),
+        Either::First(centre) => centre.add(entry.number, setting),
+        Either::Second(centre) => centre.add(entry.number, setting),
     }
 }
 
@@ -40,17 +42,31 @@ fn add(base: &mut BaseCentre, account: i64, setting: i64) -> Result<(), Denial>
 pub fn add_account(centre: &mut HouseCentre, account: i64, setting: i64) -> Result<(), Denial>
     ensures { AccountAdded centre.old account setting centre.new result }
 {
-    add(centre.below_mut(), account, setting)
+    let entry = Entry {
+        number: account,
+        value: setting,
+    };
+    add(centre.below_mut(), &entry)
 }
 
-/// Places an account in a firm of the highest firm cap. By cause 6 of that layer nothing changes.
-pub fn place(centre: &mut HouseCentre, account: i64, firm: i64) -> Result<(), Denial>
-    ensures { PlacedTo centre.old account firm centre.new result }
+// Places the account of an entry in a firm of the highest firm cap. By cause 6 of that layer nothing changes.
+pub(crate) fn place(centre: &mut HouseCentre, entry: &Entry) -> Result<(), Denial>
+    ensures { PlacedTo centre.old entry.now.number entry.now.value centre.new result }
 {
-    let Some(firm) = from_zero(firm) else {
+    let Some(firm) = from_zero(entry.value) else {
         return Err(Denial::new(Cause::BadSetting, centre.depth()));
     };
-    centre.place(account, firm)
+    centre.place(entry.number, firm)
+}
+
+// Sets the cap of the firm of an entry in the highest firm cap. By cause 6 of that layer nothing changes.
+pub(crate) fn set(centre: &mut HouseCentre, entry: &Entry) -> Result<(), Denial>
+    ensures { CapSetTo centre.old entry.now.number entry.now.value centre.new result }
+{
+    match (from_zero(entry.number), from_zero(entry.value)) {
+        (Some(firm), Some(cap)) => centre.set_cap(firm, cap),
+        _ => Err(Denial::new(Cause::BadSetting, centre.depth())),
+    }
 }
 
 /// Sets the cap of a firm in the highest firm cap. By cause 6 of that layer nothing changes: there is no such firm, the cap
@@ -58,10 +74,11 @@ pub fn place(centre: &mut HouseCentre, account: i64, firm: i64) -> Result<(), De
 pub fn set_cap(centre: &mut HouseCentre, firm: i64, cap: i64) -> Result<(), Denial>
     ensures { CapSetTo centre.old firm cap centre.new result }
 {
-    match (from_zero(firm), from_zero(cap)) {
-        (Some(firm), Some(cap)) => centre.set_cap(firm, cap),
-        _ => Err(Denial::new(Cause::BadSetting, centre.depth())),
-    }
+    let entry = Entry {
+        number: firm,
+        value: cap,
+    };
+    set(centre, &entry)
 }
 
 /// The account at a place, the smallest at 0: places go up by account, and none is left out.

@@ -83,7 +83,12 @@ impl fmt::Display for Refusal {
 pub enum SettingsError {
     /// An allocation failed, which says nothing of the text.
     OutOfMemory,
-    /// The text is not UTF-8 or not TOML.
+    /// The text is not UTF-8.
+    NotUtf8 {
+        /// The line of the first byte that is none, counted from 1.
+        line: usize,
+    },
+    /// The text is not TOML.
     Syntax {
         /// The line where reading stopped, counted from 1.
         line: usize,
@@ -97,6 +102,7 @@ impl fmt::Display for SettingsError {
     fn fmt<W: fmt::Write>(&self, f: &mut fmt::Formatter<W>) -> fmt::Result {
         match self {
             SettingsError::OutOfMemory => f.write_str("out of memory"),
+            SettingsError::NotUtf8 { line } => write!(f, "line {line}: not UTF-8"),
             SettingsError::Syntax { line, error } => {
                 write!(f, "line {line}: not TOML: {}", error.message())
             }
