@@ -20,8 +20,7 @@ module _ (R : Rule) (C : Own) (S : State) (L : Lines) (c : Call) (r : Reply) whe
   further S₀ M S' L' so_far law L₀ calls led =
       let (more, there, kept) = so_far L₀ calls led in
       let k = law L₀ (calls ++ more) there in
-      let joined = append_assoc calls more (c ∷ []) in
-      (
+      let joined = append_assoc calls more (c ∷ []) in (
         more ++ c ∷ [],
         subst (λ cs. LedTo R C L₀ cs S' L') joined k.0,
         subst (λ cs. Keeps R (events_of (run R C (new_day L₀) cs).history) S' L') joined k.2,

@@ -3,6 +3,7 @@ pub mod Answers
 pub mod Asked
 pub mod Carried
 pub mod Items
+pub mod Lines
 pub mod Messages
 pub mod Replies
 pub mod Shown

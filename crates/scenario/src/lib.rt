@@ -3,5 +3,6 @@
 
 pub mod answer;
 pub mod carry;
+pub mod floor;
 pub mod state;
 pub mod words;

@@ -2,9 +2,11 @@
 ghost use Rattle.market.specs.BookState.{state_of};
 ghost use Rattle.scenario.specs.Shown.{each, listed};
 ghost use Rattle.scenario.specs.States.{book_text, market_text, period_text, trades_text};
+ghost use Rattle.scenario.specs.Lines.{lines_text, rows_of};
 ghost use Rattle.std.specs.Io.KnownBytes.{Appends};
-ghost use Rattle.std.specs.Prelude.{◌≡◌, ℕ, List, OnOk};
+ghost use Rattle.std.specs.Prelude.{◌≡◌, ℕ, List, IfOk, OnOk};
 
+use crate::floor::HouseFloor;
 use clearing::centre::Centre;
 use clearing::line::Line;
 use clearing::side::Side;
@@ -13,6 +15,7 @@ use market::order::Order;
 use market::period::Period;
 use market::rule::QueueRule;
 use market::trade::{Party, Trade};
+use std::alloc::{AllocError, Global};
 use std::io::Write;
 use std::{fmt, io};
 
@@ -162,4 +165,30 @@ pub fn show_market<W: Write, R: QueueRule, C: Centre>(
     write!(out, "deviation={} ", market.deviation())?;
     let trades = market.trades().len();
     write!(out, "given={} trades={trades}", market.last_number())
+}
+
+// The accounts that have a line, each with its line, in ascending order.
+fn rows<C: HouseFloor>(heap: Global, centre: &C) -> Result<Vec<Row>, AllocError>
+    ensures { IfOk result (λ rows. rows.items ≡ rows_of (C.Centre.lines centre.now) (C.HouseFloor.accounts centre.now)) }
+{
+    let mut rows = Vec::new(heap);
+    for at in 0..usize::MAX {
+        let Some(account) = centre.account_at(at) else {
+            return Ok(rows);
+        };
+        if let Some(line) = centre.line(account) {
+            rows.push(Row { account, line })?;
+        }
+    }
+    // More accounts than there are addresses fit no memory.
+    Err(AllocError)
+}
+
+/// The accounts' lines: held and settled of buys, then of sells: `101 0 10 0 0; 102 2 0 5 5`; or `none`.
+pub fn show_lines<W: Write, C: HouseFloor>(heap: Global, out: &mut W, centre: &C) -> io::Result<()>
+    ensures { OnOk result (Appends (W.contents out.old) (W.contents out.new)
+        (lines_text (C.Centre.lines centre.now) (C.HouseFloor.accounts centre.now))) }
+{
+    let rows = rows(heap, centre)?;
+    show_list(out, rows.as_slice())
 }

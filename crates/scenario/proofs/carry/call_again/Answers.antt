@@ -38,8 +38,7 @@ loop-turn-preserved g c =
     let D : Own = g.C.Centre.own m.centre in
     let own = g.met.C.Centre.same_own m.centre mid.centre inv.3 in
     let answered = ap₂ (λ Q E. answer Q E S L it) (sym (ap by inv.2)) own ∙ call.answered in
-    let law = subst₂ (λ Q E. CallKeepsTheLaw Q E S L it r S' L') (ap by inv.2) (sym own) call.law in
-    (
+    let law = subst₂ (λ Q E. CallKeepsTheLaw Q E S L it r S' L') (ap by inv.2) (sym own) call.law in (
       rw add-one (ap (λ (d : Done). answer R D d.state d.lines it) inv.0 ∙ answered),
       further R D S L it r (state_of m.book) (g.C.Centre.lines m.centre) S' L' inv.1 law,
       call.rule ∙ inv.2,
