@@ -2,3 +2,5 @@ pub mod Numbers
 pub mod Readings
 pub mod AccountSteps
 pub mod LayerSteps
+pub mod LayerJoins
+pub mod Houses
