@@ -5,6 +5,8 @@ pub mod Carried
 pub mod Items
 pub mod Lines
 pub mod Messages
+pub mod Options
+pub mod Rehearsed
 pub mod Replies
 pub mod Shown
 pub mod States

@@ -3,6 +3,9 @@
 
 pub mod answer;
 pub mod carry;
+pub mod error;
 pub mod floor;
+pub mod program;
+pub mod rehearse;
 pub mod state;
 pub mod words;

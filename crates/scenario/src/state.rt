@@ -1,10 +1,10 @@
 //! The state of a market and its centre, in the words of a scenario.
 ghost use Rattle.market.specs.BookState.{state_of};
-ghost use Rattle.scenario.specs.Shown.{each, listed};
+ghost use Rattle.scenario.specs.Shown.{each, listed, spaced};
 ghost use Rattle.scenario.specs.States.{book_text, market_text, period_text, trades_text};
-ghost use Rattle.scenario.specs.Lines.{lines_text, rows_of};
+ghost use Rattle.scenario.specs.Lines.{lines_text, row_of, rows_of};
 ghost use Rattle.std.specs.Io.KnownBytes.{Appends};
-ghost use Rattle.std.specs.Prelude.{◌≡◌, ℕ, List, IfOk, OnOk};
+ghost use Rattle.std.specs.Prelude.{◌≡◌, ◌++◌, ℕ, List, IfOk, OnOk};
 
 use crate::floor::HouseFloor;
 use clearing::centre::Centre;
@@ -167,6 +167,16 @@ pub fn show_market<W: Write, R: QueueRule, C: Centre>(
     write!(out, "given={} trades={trades}", market.last_number())
 }
 
+// The row of an account that has a line.
+fn add_row(rows: &mut Vec<Row>, account: i64, line: Option<Line>) -> Result<(), AllocError>
+    ensures { OnOk result (rows.new.items ≡ rows.old.items ++ row_of account line) }
+{
+    if let Some(line) = line {
+        rows.push(Row { account, line })?;
+    }
+    Ok(())
+}
+
 // The accounts that have a line, each with its line, in ascending order.
 fn rows<C: HouseFloor>(heap: Global, centre: &C) -> Result<Vec<Row>, AllocError>
     ensures { IfOk result (λ rows. rows.items ≡ rows_of (C.Centre.lines centre.now) (C.HouseFloor.accounts centre.now)) }
@@ -176,9 +186,7 @@ fn rows<C: HouseFloor>(heap: Global, centre: &C) -> Result<Vec<Row>, AllocError>
         let Some(account) = centre.account_at(at) else {
             return Ok(rows);
         };
-        if let Some(line) = centre.line(account) {
-            rows.push(Row { account, line })?;
-        }
+        add_row(&mut rows, account, centre.line(account))?;
     }
     // More accounts than there are addresses fit no memory.
     Err(AllocError)
@@ -191,4 +199,25 @@ pub fn show_lines<W: Write, C: HouseFloor>(heap: Global, out: &mut W, centre: &C
 {
     let rows = rows(heap, centre)?;
     show_list(out, rows.as_slice())
+}
+
+impl<'a> Item for &'a str {
+    ghost text = { λ word. word.now };
+
+    fn show<W: Write>(&self, out: &mut W) -> io::Result<()> {
+        out.write_all(self.as_bytes())
+    }
+}
+
+/// Words, parted by one blank.
+pub(crate) fn show_words<W: Write>(out: &mut W, words: &[&str]) -> io::Result<()>
+    ensures { OnOk result (Appends (W.contents out.old) (W.contents out.new) (spaced words.now)) }
+{
+    match words {
+        [] => Ok(()),
+        [first, more @ ..] => {
+            first.show(out)?;
+            show_each(out, " ", more)
+        }
+    }
 }
