@@ -1,11 +1,11 @@
 -- One account of the entries, added or not. Assumes nothing.
-use Rattle.std.proofs.Common.{◌≡◌, ℕ, ◌+◌, Bool, true, false, ◌&&◌, List, [], ◌∷◌, length, ℤ, pos, Ok, Err, Option, Result, refl, sym, ap, ◌∙◌, rules}
+use Rattle.std.proofs.Common.{◌≡◌, true, false, List, ◌∷◌, length, pos, Ok, Err, Result, refl, sym}
 use Rattle.std.proofs.lemmas.Bool.{false≢true}
 use Rattle.std.specs.Result.{is_err}
-use Rattle.clearing.specs.Ledger.{allowances_of, can_add, lines_of}
+use Rattle.clearing.specs.Ledger.{allowances_of, lines_of}
 use Rattle.clearing.specs.declared.cause.Denial.{Denial}
 use Rattle.house.specs.Built.{accounts_fit, with_lines, with_values}
-use Rattle.house.specs.House.{AddedToBase, Base, allowance_fits, margin_of, rows_of}
+use Rattle.house.specs.House.{AddedToBase, Base, margin_of, rows_of}
 use Rattle.house.specs.declared.settings.Entry.{Entry}
 
 -- any entry

@@ -1,7 +1,7 @@
 -- A house from its parts. Assumes nothing.
-use Rattle.std.proofs.Common.{◌≡◌, ℕ, Bool, true, false, ◌&&◌, List, [], length, Some, None, Ok, Err, Option, Result, refl, sym, ap, ◌∙◌, rules}
+use Rattle.std.proofs.Common.{◌≡◌, true, false, [], Some, None, Ok, Err, refl, sym, ap, ◌∙◌}
 use Rattle.clearing.specs.Ledger.{allowances_of, lines_of}
-use Rattle.house.specs.Built.{AccountsAdded, LayersBuilt, accounts_fit, layers_fit, margin_said, with_lines, with_values}
+use Rattle.house.specs.Built.{AccountsAdded, LayersBuilt, accounts_fit, margin_said, with_lines, with_values}
 use Rattle.house.specs.House.{Base, HouseCentre, margin_of, rows_of}
 use Rattle.house.specs.Read.{HouseMade, fits}
 use Rattle.house.specs.Settings.{Written}
@@ -22,8 +22,7 @@ module _ (w : Written) (b : Base) (kind : margin_said w.kind ≡ Some (margin_of
       let at : h.centre.below ≡ b' = below ∙ over in
       let fit0 : accounts_fit w.accounts (margin_of b) 0 (λ a. None) ≡ true = rw none at fit in
       let lines0 : lines_of (rows_of b') ≡ with_lines w.accounts (λ a. None) = rw none at lines in
-      let values0 : allowances_of (rows_of b') ≡ with_values w.accounts (λ a. None) = rw none at values in
-      (
+      let values0 : allowances_of (rows_of b') ≡ with_values w.accounts (λ a. None) = rw none at values in (
         rw (kind, fit0, fit') refl,
         (rule, rw at (kind ∙ ap Some (sym margin)), rw at values0, rw at lines0, layers),
       )

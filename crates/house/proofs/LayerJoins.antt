@@ -1,14 +1,13 @@
 -- A firm cap put over others, from its parts. Assumes nothing.
-use Rattle.std.proofs.Common.{◌≡◌, ℕ, ◌-◌, ◌+◌, ◌<◌, ◌≤◌, Bool, true, false, ◌&&◌, List, [], ◌∷◌, ◌++◌, length, replicate, take, get_or, is_some, Some, None, Ok, Err, Option, Result, refl, sym, ap, ◌∙◌, rules, arith, subst}
+use Rattle.std.proofs.Common.{◌≡◌, ◌-◌, ◌+◌, ◌<◌, true, false, List, [], ◌∷◌, ◌++◌, length, replicate, take, get_or, is_some, Some, None, Ok, Err, Option, Result, refl, sym, ap, ◌∙◌, arith}
 use Rattle.std.proofs.lemmas.Bool.{false≢true}
 use Rattle.std.proofs.lemmas.List.{take_more}
 use Rattle.std.proofs.Math.Seq.{take-length}
 use Rattle.std.proofs.lemmas.Option.{get_or_from_slice_get, slice_get_within}
-use Rattle.std.specs.List.{slice_get}
 use Rattle.centres.specs.Firms.{firm_of}
-use Rattle.centres.specs.Layers.{IsUnset, LayerAdded, top_of, under_top}
+use Rattle.centres.specs.Layers.{IsUnset, top_of, under_top}
 use Rattle.centres.specs.declared.firm_table.FirmTable.{FirmTable}
-use Rattle.house.specs.Built.{AreLayers, CapsSet, IsLayer, LayerBuilt, MembersAdded, caps_fit, caps_in, has_layer, layer_fits, members_fit, members_in, top_caps, top_members, with_caps, with_values}
+use Rattle.house.specs.Built.{AreLayers, CapsSet, IsLayer, LayerBuilt, MembersAdded, caps_in, layer_fits, members_fit, members_in, top_caps, top_members, with_caps, with_values}
 use Rattle.house.specs.House.{HouseCentre}
 use Rattle.house.specs.Settings.{CapText}
 use Rattle.house.specs.Stop.{IsRefusal}
@@ -39,8 +38,7 @@ pub with_all : (b c d e : HouseCentre) (l : CapText) (r : Result (Unit {0}) Stop
 with_all b c d e l (Ok x) new under below (fit, firms, caps, (there, under', below')) (fit', caps', members, (there', under'', below'')) =
     let fits : members_fit l.members 0 (λ a. None) ≡ true = rw new.members at fit in
     let placed : firm_of (top_members d) ≡ with_values l.members (λ a. None) = rw new.members at firms in
-    let set : top_caps e ≡ with_caps l.caps (replicate 8 0) = rw (caps, new.caps) at caps' in
-    (
+    let set : top_caps e ≡ with_caps l.caps (replicate 8 0) = rw (caps, new.caps) at caps' in (
       rw (fits, fit') refl,
       is_layer (top_of e.tables.items) l there' (ap firm_of members ∙ placed) set,
       under'' ∙ under' ∙ under,

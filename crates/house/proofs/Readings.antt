@@ -1,5 +1,5 @@
 -- What was read before what is left. Assumes nothing.
-use Rattle.std.proofs.Common.{◌≡◌, List, [], ◌∷◌, ◌++◌, Some, None, Option, refl, ap, append_assoc, sym, rules}
+use Rattle.std.proofs.Common.{◌≡◌, List, [], ◌∷◌, ◌++◌, Some, None, Option, refl, ap, append_assoc, sym}
 use Rattle.house.specs.Document.{after, before}
 
 -- one more of what was read

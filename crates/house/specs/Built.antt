@@ -1,5 +1,5 @@
 -- Which house the settings make, step by step, and when they make none. Assumes nothing.
-use Rattle.std.specs.Prelude.{◌≡◌, ℕ, ◌+◌, ◌-◌, Bool, true, false, cond, not, ◌&&◌, List, [], ◌∷◌, ◌++◌, length, replicate, ℤ, is_some, Some, None, Ok, Err, Option, Result, nat_lt, option_map, slice_set}
+use Rattle.std.specs.Prelude.{◌≡◌, ℕ, ◌+◌, ◌-◌, Bool, true, false, cond, not, ◌&&◌, List, [], ◌∷◌, ◌++◌, length, replicate, ℤ, is_some, Some, None, Ok, Err, Option, Result, nat_lt, slice_set}
 use Rattle.std.specs.List.{list_any}
 use Rattle.std.specs.Ordering.{int_eq}
 use Rattle.centres.specs.Firms.{firm_fits, firm_of}
@@ -13,7 +13,7 @@ use Rattle.clearing.specs.Ledger.{allowances_of, lines_of}
 use Rattle.clearing.specs.Line.{empty}
 use Rattle.clearing.specs.Table.{with_entry}
 use Rattle.house.specs.House.{Base, HouseCentre, allowance_fits, amount, cap_in_range, firm_in_range, from_zero, margin_of, passes, rows_of}
-use Rattle.house.specs.Settings.{CapText, Written}
+use Rattle.house.specs.Settings.{CapText}
 use Rattle.house.specs.Stop.{IsRefusal}
 use Rattle.house.specs.declared.settings.Entry.{Entry}
 use Rattle.house.specs.declared.settings.Kind.{Kind}

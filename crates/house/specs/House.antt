@@ -5,7 +5,6 @@ use Rattle.centres.specs.Firms.{Placed, can_place, cap_fits, firm_fits}
 use Rattle.centres.specs.Layers.{TopSet, depth_over, with_below}
 use Rattle.centres.specs.Rules.{deposit_max, limit_max}
 use Rattle.centres.specs.declared.either.Either.{Either}
-use Rattle.centres.specs.declared.firm_table.FirmTable.{FirmTable}
 use Rattle.centres.specs.declared.firm_table.Member.{Member}
 use Rattle.centres.specs.declared.layers.Layers.{Layers}
 use Rattle.centres.specs.declared.position.Position.{Position}

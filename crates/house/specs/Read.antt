@@ -1,5 +1,5 @@
 -- The house that a text says, or that it says none. Assumes nothing.
-use Rattle.std.specs.Prelude.{◌≡◌, ℕ, Bool, true, false, ◌&&◌, List, ℤ, Some, None, Ok, Err, Option, Result, option_and_then, ⊤}
+use Rattle.std.specs.Prelude.{◌≡◌, ℕ, Bool, true, false, ◌&&◌, List, Some, None, Ok, Err, Option, Result, option_and_then, ⊤}
 use Rattle.clearing.specs.Ledger.{allowances_of, lines_of}
 use Rattle.toml.specs.Parse.{parse_document}
 use Rattle.house.specs.Built.{AreLayers, accounts_fit, layers_fit, margin_said, with_lines, with_values}
@@ -10,7 +10,6 @@ use Rattle.house.specs.Stop.{IsRefusal}
 use Rattle.house.specs.declared.error.SettingsError.{SettingsError}
 use Rattle.house.specs.declared.error.SettingsError.TheVariants as error
 use Rattle.house.specs.declared.read.House.{House}
-use Rattle.house.specs.declared.settings.Entry.{Entry}
 use Rattle.house.specs.declared.stop.Stop.{Stop}
 
 -- what a text says of a house

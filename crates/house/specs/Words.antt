@@ -1,5 +1,5 @@
 -- What is printed of a place and of what was expected there. Assumes nothing.
-use Rattle.std.specs.Prelude.{ℕ, Bool, true, false, cond, List, [], ◌∷◌, ◌++◌, codes, string_bytes, string_len, ◌==◌}
+use Rattle.std.specs.Prelude.{ℕ, cond, List, [], ◌++◌, codes, string_bytes, string_len, ◌==◌}
 use Rattle.std.specs.Fmt.{decimal}
 use Rattle.house.specs.declared.error.Expected.{Expected}
 use Rattle.house.specs.declared.error.Expected.TheVariants as want
@@ -7,6 +7,8 @@ use Rattle.house.specs.declared.error.Refusal.{Refusal}
 use Rattle.house.specs.declared.place.Place.{Place}
 use Rattle.house.specs.declared.place.Section.{Section}
 use Rattle.house.specs.declared.place.Section.TheVariants as section
+use Rattle.house.specs.declared.rule.HouseRule.{HouseRule}
+use Rattle.house.specs.declared.rule.HouseRule.TheVariants as chosen
 
 abbrev pub section_text : Section → List ℕ
 section_text section.Document = codes "the settings"
@@ -52,3 +54,7 @@ expected_text (want.NoOtherKey ks) = codes "no other key than " ++ ks.now
 
 abbrev pub refusal_text : Refusal → List ℕ
 refusal_text r = codes "line " ++ decimal r.line ++ codes ": " ++ place_text r.place ++ codes ": expected " ++ expected_text r.expected
+
+abbrev pub rule_text : HouseRule → List ℕ
+rule_text chosen.Rate = codes "by rate"
+rule_text chosen.Yield = codes "by yield"

@@ -43,7 +43,11 @@ pub(crate) fn base(heap: Global, kind: Kind) -> Result<BaseCentre, Stop>
 // What was expected of an account that the centre did not take.
 fn of_account(base: &BaseCentre, account: i64) -> Expected {
     let (there, last, allowance) = match base {
-        Either::First(centre) => (centre.allowance(account), centre.account_at(31), Expected::Limit),
+        Either::First(centre) => (
+            centre.allowance(account),
+            centre.account_at(31),
+            Expected::Limit,
+        ),
         Either::Second(centre) => (
             centre.allowance(account),
             centre.account_at(31),
@@ -62,7 +66,11 @@ fn of_account(base: &BaseCentre, account: i64) -> Expected {
 }
 
 // Adds accounts with their limits or deposits.
-pub(crate) fn add_accounts(heap: Global, base: &mut BaseCentre, entries: &[Entry]) -> Result<(), Stop>
+pub(crate) fn add_accounts(
+    heap: Global,
+    base: &mut BaseCentre,
+    entries: &[Entry],
+) -> Result<(), Stop>
     ensures { AccountsAdded base.old entries.now base.new result }
 {
     for entry in entries {
@@ -154,12 +162,7 @@ fn set_caps(
 }
 
 // Puts a firm cap over the others.
-fn add_layer(
-    heap: Global,
-    centre: &mut HouseCentre,
-    layer: &Layer,
-    nth: usize,
-) -> Result<(), Stop>
+fn add_layer(heap: Global, centre: &mut HouseCentre, layer: &Layer, nth: usize) -> Result<(), Stop>
     ensures { LayerBuilt centre.old (layer_view layer.now) centre.new result }
 {
     centre.add_layer()?;
@@ -168,7 +171,11 @@ fn add_layer(
 }
 
 // Puts firm caps over a centre that has none, the lowest first.
-pub(crate) fn add_layers(heap: Global, centre: &mut HouseCentre, layers: &[Layer]) -> Result<(), Stop>
+pub(crate) fn add_layers(
+    heap: Global,
+    centre: &mut HouseCentre,
+    layers: &[Layer],
+) -> Result<(), Stop>
     requires { centre.old.tables.items ≡ [] }
     ensures { LayersBuilt centre.old (map layer_view layers.now) centre.new result }
 {

@@ -84,12 +84,7 @@ fn check_keys(
 {
     for (key, _value) in table.iter() {
         if !is_among(key.as_str(), keys) {
-            return Err(Stop::at(
-                heap,
-                section,
-                key.as_str(),
-                Expected::NoOtherKey(names),
-            ));
+            return Err(Stop::at(heap, section, key.as_str(), Expected::NoOtherKey(names)));
         }
     }
     Ok(())
@@ -163,7 +158,13 @@ fn kind(heap: Global, centre: &Table) -> Result<Kind, Stop>
     let kind = required(heap, centre, Section::Centre, "kind")?;
     match kind.as_str() {
         Some("position") => {
-            check_keys(heap, centre, Section::Centre, &["kind", "accounts"], "kind, accounts")?;
+            check_keys(
+                heap,
+                centre,
+                Section::Centre,
+                &["kind", "accounts"],
+                "kind, accounts",
+            )?;
             Ok(Kind::Position)
         }
         Some("prepaid") => {
@@ -208,7 +209,14 @@ fn layer(heap: Global, value: &Value, nth: usize) -> Result<Layer, Stop>
         number: Expected::Account,
         value: Expected::Firm,
     };
-    let members = entries_at(heap, table, section, "members", Section::Members(nth), firms)?;
+    let members = entries_at(
+        heap,
+        table,
+        section,
+        "members",
+        Section::Members(nth),
+        firms,
+    )?;
     let limits = Expectations {
         number: Expected::Firm,
         value: Expected::Cap,
@@ -250,7 +258,14 @@ fn accounts(heap: Global, centre: &Table, kind: Kind) -> Result<Vec<Entry>, Stop
         number: Expected::Account,
         value: kind.allowance(),
     };
-    entries_at(heap, centre, Section::Centre, "accounts", Section::Accounts, expected)
+    entries_at(
+        heap,
+        centre,
+        Section::Centre,
+        "accounts",
+        Section::Accounts,
+        expected,
+    )
 }
 
 /// What a document says of a house.
@@ -258,7 +273,13 @@ pub(crate) fn settings(heap: Global, document: &Table) -> Result<Settings, Stop>
     ensures { Reads settings_view (settings_of (table_view document.now)) result }
 {
     let keys = ["instrument", "centre", "cap"];
-    check_keys(heap, document, Section::Document, &keys, "instrument, centre, cap")?;
+    check_keys(
+        heap,
+        document,
+        Section::Document,
+        &keys,
+        "instrument, centre, cap",
+    )?;
     let rule = rule(heap, document)?;
     let centre = table_at(heap, document, Section::Document, "centre")?;
     let kind = kind(heap, centre)?;

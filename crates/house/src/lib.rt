@@ -8,6 +8,8 @@ pub mod error;
 mod line;
 pub mod place;
 pub mod read;
+pub mod report;
 pub mod rule;
 pub mod settings;
 mod stop;
+mod table;

@@ -37,7 +37,12 @@ impl Stop {
     }
 
     // A stop at a number that is a key of a table.
-    pub(crate) fn at_number(heap: Global, section: Section, number: i64, expected: Expected) -> Stop {
+    pub(crate) fn at_number(
+        heap: Global,
+        section: Section,
+        number: i64,
+        expected: Expected,
+    ) -> Stop {
         match format!(in heap; "{number}") {
             Ok(key) => Stop::Refused(Place { section, key }, expected),
             Err(_) => Stop::OutOfMemory,

@@ -1,10 +1,7 @@
 -- Each turn adds one account.
-use Rattle.std.proofs.Common.{◌≡◌, ◌+◌, false, true, drop, get_or, ◌∷◌, sym, ◌∙◌, rules}
+use Rattle.std.proofs.Common.{◌+◌, drop, get_or, sym, ◌∙◌, rules}
 use Rattle.std.proofs.lemmas.List.{drop_more}
-use Rattle.std.specs.Result.{is_err}
-use Rattle.house.proofs.AccountSteps.{AddedOne, added_one, no_entry, not_added}
-use Rattle.house.specs.Built.{accounts_fit}
-use Rattle.house.specs.House.{margin_of, rows_of}
+use Rattle.house.proofs.AccountSteps.{added_one, no_entry, not_added}
 use Rattle.house.proofs.build.add_accounts.Goals as goal
 
 pub returns-then-is_err : goal.returns-then-is_err

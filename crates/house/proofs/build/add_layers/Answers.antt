@@ -17,8 +17,7 @@ loop-layer-preserved c =
     let cut : drop i ls ≡ x ∷ drop (i + 1) ls = drop_more ls i x c.loop-layer-test.true ∙ ap (λ y. y ∷ drop (i + 1) ls) at in
     let more : take (i + 1) ls ≡ take i ls ++ x ∷ [] = take_more ls i x c.loop-layer-test.true ∙ ap (λ y. take i ls ++ y ∷ []) at in
     let left : layers_fit (map layer_view (x ∷ drop (i + 1) ls)) ≡ layers_fit (map layer_view ls) = rw cut at inv.0 in
-    let named : map layer_view (take (i + 1) ls) ≡ map layer_view (take i ls) ++ layer_view x ∷ [] = ap (map layer_view) more ∙ map-append layer_view (take i ls) (x ∷ []) in
-    (
+    let named : map layer_view (take (i + 1) ls) ≡ map layer_view (take i ls) ++ layer_view x ∷ [] = ap (map layer_view) more ∙ map-append layer_view (take i ls) (x ∷ []) in (
       rw h.0 at left,
       subst (λ ks. AreLayers ks c.add_layer.new.centre.tables.items) (sym named) (one_more _ _ c.loop-layer.centre c.add_layer.new.centre h inv.1),
       h.3 ∙ inv.2,

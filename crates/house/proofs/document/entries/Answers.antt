@@ -1,5 +1,5 @@
 -- Each turn takes one entry over.
-use Rattle.std.proofs.Common.{◌≡◌, arith}
+use Rattle.std.proofs.Common.{arith}
 use Rattle.std.proofs.lemmas.Grind.{common_steps}
 use Rattle.house.proofs.Readings.{after_before}
 use Rattle.house.proofs.document.entries.Goals as goal
