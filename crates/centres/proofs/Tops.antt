@@ -1,12 +1,12 @@
 -- The highest of some tables: after it was changed, and after one was put over it. Assumes nothing.
-use Rattle.std.proofs.Common.{◌≡◌, ℕ, ◌-◌, ◌<◌, List, [], ◌∷◌, ◌++◌, length, get_or, Bool, true, false, Some, Ok, Err, Result, MatchResult, sym, ap, ◌∙◌, arith, refl, length-append}
+use Rattle.std.proofs.Common.{◌≡◌, ℕ, ◌-◌, ◌<◌, List, [], ◌∷◌, ◌++◌, length, get_or, Bool, false, Some, Ok, Err, Result, MatchResult, sym, ap, ◌∙◌, arith, refl, length-append}
 use Rattle.std.proofs.Math.ListN.{set, length-set}
-use Rattle.std.proofs.lemmas.List.{get_or-set_same, take-set, take-append-le, set-get_or}
+use Rattle.std.proofs.lemmas.List.{get_or-set_same, take-set, set-get_or}
 use Rattle.std.proofs.Math.Seq.{take-append_seam}
 use Rattle.std.proofs.lemmas.Option.{slice_get-get_or}
 use Rattle.std.specs.List.{slice_get}
 use Rattle.std.specs.Vec.{with_item}
-use Rattle.centres.specs.Layers.{TopSet, top_of, under_top}
+use Rattle.centres.specs.Layers.{TopSet, depth_over, top_of, under_top}
 use Rattle.clearing.specs.Cause.{denied}
 use Rattle.clearing.specs.declared.cause.Cause.{Cause}
 use Rattle.clearing.specs.declared.cause.Cause.TheVariants.{BadSetting}
@@ -49,8 +49,8 @@ module _ (ts : List FirmTable) (t : FirmTable) where
 -- t is the highest table of s, and u stands in its place
 module _ {C : Type 0} (s : Layers C) (t u : FirmTable) (some : 0 < s.tables.len) (read : t ≡ get_or s.tables.items (s.tables.len - 1) t) where
   -- what was done to it is done on top of all others
-  pub on_top : (can : FirmTable → Bool) (to : FirmTable → FirmTable → Type 0) (d : ℕ) (r : Result (Unit {0}) Cause) (q : Result (Unit {0}) Denial) → MatchResult r (λ _. to t u) (λ c. (can t ≡ false) × (c ≡ BadSetting) × (u ≡ t)) → MatchResult r (λ x. q ≡ Ok x) (λ c. q ≡ Err (denied c d)) → TopSet can to d s (record s { tables = with_item s.tables (s.tables.len - 1) u }) q
+  pub on_top : (can : FirmTable → Bool) (to : FirmTable → FirmTable → Type 0) (d : ℕ) (r : Result (Unit {0}) Cause) (q : Result (Unit {0}) Denial) → MatchResult r (λ _. to t u) (λ c. (can t ≡ false) × (c ≡ BadSetting) × (u ≡ t)) → MatchResult r (λ x. q ≡ Ok x) (λ c. q ≡ Err (denied c (depth_over s.tables.items d))) → TopSet can to d s (record s { tables = with_item s.tables (s.tables.len - 1) u }) q
   on_top can to d (Ok x) q done answer =
       rw (answer, top_is s.tables.items s.tables.len s.tables.ok.0 t some read, top_set s.tables.items s.tables.len s.tables.ok.0 u some) (done, under_set s.tables.items s.tables.len s.tables.ok.0 u, refl)
   on_top can to d (Err c) q done answer =
-      rw (answer, top_is s.tables.items s.tables.len s.tables.ok.0 t some read) (done.0, ap (λ c. denied c d) done.1, set_same s.tables.items s.tables.len s.tables.ok.0 t u read done.2, refl)
+      rw (answer, top_is s.tables.items s.tables.len s.tables.ok.0 t some read) (done.0, ap (λ c. denied c (depth_over s.tables.items d)) done.1, set_same s.tables.items s.tables.len s.tables.ok.0 t u read done.2, refl)

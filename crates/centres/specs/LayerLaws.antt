@@ -1,5 +1,5 @@
 -- Layers of caps say what caps one over the other say, and say no as a centre may. Assumes nothing.
-use Rattle.std.specs.Prelude.{◌≡◌, ℕ, ◌+◌, ◌≤◌, Bool, true, false, cond, List, [], ◌∷◌, ℤ, Some, None, Option, refl}
+use Rattle.std.specs.Prelude.{◌≡◌, ℕ, ◌+◌, ◌≤◌, Bool, true, false, cond, List, [], ◌∷◌, ◌++◌, ℤ, Some, None, Option, refl}
 use Rattle.std.proofs.Common.{sym, ap, subst, ◌∙◌, rules}
 use Rattle.std.proofs.Math.Nat.{min-le_right}
 use Rattle.std.proofs.Math.Path.{fun_ext}
@@ -7,10 +7,11 @@ use Rattle.clearing.specs.Cause.{denied}
 use Rattle.clearing.specs.Centre.{Denies, Lines, Own}
 use Rattle.clearing.specs.declared.cause.Cause.TheVariants.{OverFirmCap}
 use Rattle.clearing.specs.declared.cause.Denial.{Denial}
-use Rattle.clearing.specs.declared.side.Side.{Side}
 use Rattle.centres.specs.Firms.{cap_no, cap_own, first_no, layer_over}
 use Rattle.centres.specs.Layers.{caps_no, depth_over, layers_own}
+use Rattle.centres.specs.declared.firm_cap.FirmCap.{FirmCap}
 use Rattle.centres.specs.declared.firm_table.FirmTable.{FirmTable}
+use Rattle.centres.specs.declared.layers.Layers.{Layers}
 
 first_no_none : (x : Option Denial) → first_no x None ≡ x
 first_no_none None = refl
@@ -20,16 +21,36 @@ first_no_first : (x y z : Option Denial) → first_no x (first_no y z) ≡ first
 first_no_first None y z = refl
 first_no_first (Some d) y z = refl
 
--- firm caps one over the other, each over all that are lower, the lowest over an own rule at the depth d
-abbrev pub nested_own : List FirmTable → ℕ → Own → Own
-nested_own [] d own = own
-nested_own (t ∷ ts) d own = nested_own ts (layer_over d) (cap_own own t.members t.caps (layer_over d))
+-- a state x of one centre and y of another have the same lines, own rule and depth
+abbrev pub SameCentre : {X Y : Type 0} → (X → Lines) → (X → Own) → (X → ℕ) → X → (Y → Lines) → (Y → Own) → (Y → ℕ) → Y → Type 0
+SameCentre lines own depth x lines' own' depth' y = (lines x ≡ lines' y) × (own x ≡ own' y) × (depth x ≡ depth' y)
 
--- layers are nested firm caps
-pub layers_nest : (ts : List FirmTable) (d : ℕ) (own : Own) → layers_own own d ts ≡ nested_own ts d own
-layers_nest [] d own = fun_ext (λ L. fun_ext (λ a. fun_ext (λ s. fun_ext (λ n. first_no_none (own L a s n)))))
-layers_nest (t ∷ ts) d own =
-    fun_ext (λ L. fun_ext (λ a. fun_ext (λ s. fun_ext (λ n. first_no_first (own L a s n) _ _)))) ∙ layers_nest ts (layer_over d) (cap_own own t.members t.caps (layer_over d))
+-- with the table t over all its layers, s becomes u
+abbrev pub OneMore : {C : Type 0} → Layers C → FirmTable → Layers C → Type 0
+OneMore s t u = (u.tables.items ≡ s.tables.items ++ t ∷ []) × (u.below ≡ s.below)
+
+-- a firm cap over those layers
+abbrev pub capped : {C : Type 0} → Layers C → FirmTable → FirmCap (Layers C)
+capped s t = record { below = s; firms = t }
+
+-- a cap more is the last that is asked, one deeper than the others
+pub caps_no-more : (ts : List FirmTable) (t : FirmTable) (d : ℕ) (L : Lines) (a : ℤ) (n : ℕ) → caps_no (ts ++ t ∷ []) d L a n ≡ first_no (caps_no ts d L a n) (cap_no L t.members t.caps (layer_over (depth_over ts d)) a n)
+caps_no-more [] t d L a n = first_no_none (cap_no L t.members t.caps (layer_over d) a n)
+caps_no-more (x ∷ ts) t d L a n =
+    ap (first_no (cap_no L x.members x.caps (layer_over d) a n)) (caps_no-more ts t (layer_over d) L a n) ∙ first_no_first (cap_no L x.members x.caps (layer_over d) a n) _ _
+
+pub depth_over-more : (ts : List FirmTable) (t : FirmTable) (d : ℕ) → depth_over (ts ++ t ∷ []) d ≡ layer_over (depth_over ts d)
+depth_over-more [] t d = refl
+depth_over-more (x ∷ ts) t d = depth_over-more ts t (layer_over d)
+
+-- with no layer, an own rule alone is asked
+pub layers_own-none : (own : Own) (d : ℕ) → layers_own own d [] ≡ own
+layers_own-none own d = fun_ext (λ L. fun_ext (λ a. fun_ext (λ s. fun_ext (λ n. first_no_none (own L a s n)))))
+
+-- layers with one more say what a firm cap over them says
+pub layers_own-more : (own : Own) (ts : List FirmTable) (t : FirmTable) (d : ℕ) → layers_own own d (ts ++ t ∷ []) ≡ cap_own (layers_own own d ts) t.members t.caps (layer_over (depth_over ts d))
+layers_own-more own ts t d =
+    fun_ext (λ L. fun_ext (λ a. fun_ext (λ s. fun_ext (λ n. ap (first_no (own L a s n)) (caps_no-more ts t d L a n) ∙ first_no_first (own L a s n) _ _))))
 
 -- no depth is above 99
 pub shallow_over : (ts : List FirmTable) (d : ℕ) → d ≤ 99 → depth_over ts d ≤ 99

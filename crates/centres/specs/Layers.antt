@@ -41,10 +41,18 @@ abbrev pub LayerAdded : {C E : Type 0} → Layers C → Layers C → Result (Uni
 LayerAdded c c' (Ok x) = IsUnset (top_of c'.tables.items) × (under_top c'.tables.items ≡ c.tables.items) × (c'.below ≡ c.below)
 LayerAdded c c' (Err e) = (c'.tables.items ≡ c.tables.items) × (c'.below ≡ c.below)
 
--- there is a highest layer, and its table passes the test
-abbrev pub passes_at : (FirmTable → Bool) → Option FirmTable → Bool
-passes_at can None = false
-passes_at can (Some t) = can t
+-- an account is placed in a firm of a table
+abbrev pub TablePlaced : ℤ → ℕ → FirmTable → FirmTable → Type 0
+TablePlaced a f t u = (can_place t.members a f ≡ true) × Placed t.members a f u.members × (u.caps ≡ t.caps)
+
+-- a firm's cap is set in a table
+abbrev pub TableCapSet : ℕ → ℕ → FirmTable → FirmTable → Type 0
+TableCapSet f n t u = ((firm_fits f && cap_fits n) ≡ true) × (u.caps ≡ slice_set t.caps (f - 1) n) × (u.members ≡ t.members)
+
+-- there is a table, and it passes the test
+abbrev pub passes : (FirmTable → Bool) → Option FirmTable → Bool
+passes can None = false
+passes can (Some t) = can t
 
 -- one table becomes another
 abbrev pub Becomes : (FirmTable → FirmTable → Type 0) → Option FirmTable → Option FirmTable → Type 0
@@ -52,19 +60,17 @@ Becomes to None u = ⊥
 Becomes to (Some t) None = ⊥
 Becomes to (Some t) (Some u) = to t u
 
--- the highest layer's table becomes another, and all below it stays; or, where it fails the test or there is no layer, by
--- cause 6 at the depth d nothing changes
+-- the highest layer's table becomes another, and all below it stays. Or, where it does not pass the test or there is no
+-- layer, by cause 6 at the depth of these layers, over a centre at the depth d, nothing changes
 abbrev pub TopSet : {C : Type 0} → (FirmTable → Bool) → (FirmTable → FirmTable → Type 0) → ℕ → Layers C → Layers C → Result (Unit {0}) Denial → Type 0
 TopSet can to d c c' (Ok x) = Becomes to (top_of c.tables.items) (top_of c'.tables.items) × (under_top c'.tables.items ≡ under_top c.tables.items) × (c'.below ≡ c.below)
-TopSet can to d c c' (Err e) = (passes_at can (top_of c.tables.items) ≡ false) × (e ≡ denied BadSetting d) × (c'.tables.items ≡ c.tables.items) × (c'.below ≡ c.below)
+TopSet can to d c c' (Err e) = (passes can (top_of c.tables.items) ≡ false) × (e ≡ denied BadSetting (depth_over c.tables.items d)) × (c'.tables.items ≡ c.tables.items) × (c'.below ≡ c.below)
 
--- an account is placed in a firm of the highest layer
 abbrev pub PlacedOnTop : {C : Type 0} → ℕ → Layers C → ℤ → ℕ → Layers C → Result (Unit {0}) Denial → Type 0
-PlacedOnTop d c a f = TopSet (λ t. can_place t.members a f) (λ t u. (can_place t.members a f ≡ true) × Placed t.members a f u.members × (u.caps ≡ t.caps)) d c
+PlacedOnTop d c a f = TopSet (λ t. can_place t.members a f) (TablePlaced a f) d c
 
--- a firm's cap is set in the highest layer
 abbrev pub CapSetOnTop : {C : Type 0} → ℕ → Layers C → ℕ → ℕ → Layers C → Result (Unit {0}) Denial → Type 0
-CapSetOnTop d c f n = TopSet (λ t. firm_fits f && cap_fits n) (λ t u. ((firm_fits f && cap_fits n) ≡ true) × (u.caps ≡ slice_set t.caps (f - 1) n) × (u.members ≡ t.members)) d c
+CapSetOnTop d c f n = TopSet (λ _. firm_fits f && cap_fits n) (TableCapSet f n) d c
 
 -- the layers over another centre
 abbrev pub with_below : {C : Type 0} → Layers C → C → Layers C

@@ -12,39 +12,6 @@ use clearing::grant::Grant;
 use clearing::line::Line;
 use clearing::side::Side;
 
-// What a member adds to a firm: all four counts of its line, if it is in that firm. A missing line counts 0.
-fn share<C: Centre>(centre: &C, member: &Member, firm: u64) -> u128
-    ensures value { result ≡ share_of (C.Centre.lines centre.now) member.now firm }
-    ensures bound { result < 2 ^ 66 }
-{
-    if member.firm != firm {
-        return 0;
-    }
-    centre.line(member.account).map_or(0, |line| line.total())
-}
-
-// The counts of all accounts of a firm.
-fn total<C: Centre>(centre: &C, firms: &FirmTable, firm: u64) -> u128
-    ensures { result ≡ firm_total (C.Centre.lines centre.now) firms.now.members firm }
-{
-    firms
-        .members()
-        .iter()
-        .map(|member| share(centre, member, firm))
-        .sum()
-}
-
-// Whether the account's firm would pass its cap with the new lots.
-pub(crate) fn is_over<C: Centre>(centre: &C, firms: &FirmTable, account: i64, lots: u64) -> bool
-    ensures { result ≡ over_cap (C.Centre.lines centre.now) firms.now.members firms.now.caps account lots }
-{
-    firms.firm(account).is_some_and(|firm| {
-        // A sum that saturates is past any cap too.
-        let all = total(centre, firms, firm).saturating_add(u128::from(lots));
-        all > u128::from(firms.cap(firm))
-    })
-}
-
 #[derive(Drop)]
 pub struct FirmCap<C> {
     below: C,
@@ -156,4 +123,37 @@ impl<C: Centre> Centre for FirmCap<C> {
     fn line(&self, account: i64) -> Option<Line> {
         self.below.line(account)
     }
+}
+
+// What a member adds to a firm: all four counts of its line, if it is in that firm. A missing line counts 0.
+fn share<C: Centre>(centre: &C, member: &Member, firm: u64) -> u128
+    ensures value { result ≡ share_of (C.Centre.lines centre.now) member.now firm }
+    ensures bound { result < 2 ^ 66 }
+{
+    if member.firm != firm {
+        return 0;
+    }
+    centre.line(member.account).map_or(0, |line| line.total())
+}
+
+// The counts of all accounts of a firm.
+fn total<C: Centre>(centre: &C, firms: &FirmTable, firm: u64) -> u128
+    ensures { result ≡ firm_total (C.Centre.lines centre.now) firms.now.members firm }
+{
+    firms
+        .members()
+        .iter()
+        .map(|member| share(centre, member, firm))
+        .sum()
+}
+
+// Whether the account's firm would pass its cap with the new lots.
+pub(crate) fn is_over<C: Centre>(centre: &C, firms: &FirmTable, account: i64, lots: u64) -> bool
+    ensures { result ≡ over_cap (C.Centre.lines centre.now) firms.now.members firms.now.caps account lots }
+{
+    firms.firm(account).is_some_and(|firm| {
+        // A sum that saturates is past any cap too.
+        let all = total(centre, firms, firm).saturating_add(u128::from(lots));
+        all > u128::from(firms.cap(firm))
+    })
 }

@@ -3,11 +3,13 @@ ghost use Rattle.std.specs.Prelude.{◌≡◌, [], IfOk};
 ghost use Rattle.std.specs.Borrow.{Lends, sem};
 ghost use Rattle.clearing.specs.Centre.{answered};
 ghost use Rattle.centres.specs.Layers.{CapSetOnTop, LayerAdded, PlacedOnTop, caps_no, depth_over, layers_own, with_below};
-ghost use Rattle.centres.specs.LayerLaws.{denies_over, shallow_over};
+ghost use Rattle.centres.specs.LayerLaws.{OneMore, SameCentre, capped, denies_over, shallow_over};
+ghost use Rattle.centres.specs.declared.firm_table.FirmTable.{FirmTable};
+ghost use Rattle.centres.specs.declared.layers.Layers.{Layers};
 ghost use Rattle.centres.specs.contracts.layers.Layers.{the_row};
 ghost use Rattle.std.proofs.Common.{rules};
 
-use crate::firm_cap::is_over;
+use crate::firm_cap::{FirmCap, is_over};
 use crate::firm_table::FirmTable;
 use clearing::cause::{Cause, Denial, one_up};
 use clearing::centre::{Centre, Unsettled};
@@ -68,9 +70,9 @@ impl<C: Centre> Layers<C> {
         Ok(())
     }
 
-    /// Places an account in a firm of the highest layer.
+    /// Places an account in a firm of the highest layer. With no layer it is cause 6, at the depth of the centre below.
     pub fn place(&mut self, account: i64, firm: u64) -> Result<(), Denial>
-        ensures { PlacedOnTop (depth_over self.old.tables.items (C.Centre.depth self.old.below)) self.old account firm self.new result }
+        ensures { PlacedOnTop (C.Centre.depth self.old.below) self.old account firm self.new result }
     {
         let depth = self.depth();
         let Some(top) = self.tables.last_mut() else {
@@ -80,9 +82,9 @@ impl<C: Centre> Layers<C> {
             .map_err(|cause| Denial::new(cause, depth))
     }
 
-    /// Sets the cap of a firm of the highest layer.
+    /// Sets the cap of a firm of the highest layer. With no layer it is cause 6, at the depth of the centre below.
     pub fn set_cap(&mut self, firm: u64, cap: u64) -> Result<(), Denial>
-        ensures { CapSetOnTop (depth_over self.old.tables.items (C.Centre.depth self.old.below)) self.old firm cap self.new result }
+        ensures { CapSetOnTop (C.Centre.depth self.old.below) self.old firm cap self.new result }
     {
         let depth = self.depth();
         let Some(top) = self.tables.last_mut() else {
@@ -133,7 +135,7 @@ impl<C: Centre> Centre for Layers<C> {
 
     fn depth(&self) -> u8 {
         let mut depth = self.below.depth();
-        for _firms in &self.tables {
+        for _ in &self.tables {
             depth = one_up(depth);
         }
         depth
@@ -164,3 +166,10 @@ impl<C: Centre> Centre for Layers<C> {
         self.below.line(account)
     }
 }
+
+/// With no layer it is the centre below, and a layer more is a firm cap over the others: so any number of layers is as many
+/// nested firm caps.
+pub fn layers_are_firm_caps<C: Centre>()
+    ensures none { (s : Layers C) → s.tables.items ≡ [] → SameCentre ⟦<Layers<C> as Centre>⟧.lines ⟦<Layers<C> as Centre>⟧.own ⟦<Layers<C> as Centre>⟧.depth s C.Centre.lines C.Centre.own C.Centre.depth s.below }
+    ensures more { (s u : Layers C) (t : FirmTable) → OneMore s t u → SameCentre ⟦<Layers<C> as Centre>⟧.lines ⟦<Layers<C> as Centre>⟧.own ⟦<Layers<C> as Centre>⟧.depth u ⟦<FirmCap<Layers<C>> as Centre>⟧.lines ⟦<FirmCap<Layers<C>> as Centre>⟧.own ⟦<FirmCap<Layers<C>> as Centre>⟧.depth (capped s t) }
+{}

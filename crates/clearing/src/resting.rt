@@ -1,14 +1,13 @@
 // Lots that are held for an order that rests.
-ghost use Rattle.clearing.specs.Grant.{CalledUp, resting_of};
+ghost use Rattle.clearing.specs.Grant.{CalledUp, grant_of, resting_of};
 ghost use Rattle.std.specs.Prelude.{◌≡◌};
 
 use crate::grant::Grant;
 use crate::side::Side;
 
-/// The lots of a resting order: what a grant becomes when it is put to rest. Neither can be copied, so each lot that is
-/// held is in one place. Unlike a grant it can be let go, as with its order when a market ends: what it had then stays held
-/// at the centre, and nothing is left by which it could be given back.
-#[derive(Drop)]
+/// The lots of a resting order: what a grant becomes when it is put to rest (docs/CENTRE.md, section 5). Neither can be
+/// copied, so each lot that is held is in one place. Nor can either be let go while it has lots: those of a resting order
+/// are called up, and so become a grant again.
 pub struct Resting {
     account: i64,
     side: Side,
@@ -53,5 +52,29 @@ impl Resting {
         }
         self.lots -= lots;
         Some(Grant::new(self.account, self.side, lots))
+    }
+
+    /// Calls all lots up: the end of the order.
+    pub fn call_up_all(self) -> Grant
+        ensures { result ≡ grant_of self.account self.side self.lots }
+    {
+        let Resting {
+            account,
+            side,
+            lots,
+        } = self;
+        Grant::new(account, side, lots)
+    }
+}
+
+impl Drop for Resting {
+    fn drop(self)
+        requires { self.lots ≡ 0 }
+    {
+        let Resting {
+            account: _,
+            side: _,
+            lots: _,
+        } = self;
     }
 }

@@ -65,10 +65,11 @@ fn enter<C: Centre>(
     side: Side,
     lots: u64,
 ) -> anyhow::Result<()> {
+    orders.reserve(1)?;
     print!(rt; "Account {account} enters to {side} {lots}: ")?;
     match order::enter(centre, account, side, lots) {
         Ok(resting) => {
-            orders.push(resting)?;
+            orders.push_reserved(resting);
             println!(rt; "reserved, as order {}", orders.len())?;
         }
         Err(denial) => tell(rt, Err(denial))?,
@@ -113,22 +114,26 @@ fn give_back<C: Centre>(
 }
 
 // Takes the steps one by one, and shows the lines after each.
-pub fn run<C: Centre>(rt: &HostRuntime, centre: &mut C) -> anyhow::Result<()> {
-    let mut orders = Vec::new(rt.alloc());
+fn take_steps<C: Centre>(
+    rt: &HostRuntime,
+    centre: &mut C,
+    orders: &mut Vec<Resting>,
+) -> anyhow::Result<()> {
     for step in STEPS {
         match step {
-            Step::Enter(account, side, lots) => enter(
-                rt,
-                centre,
-                &mut orders,
-                account,
-                side,
-                lots,
-            )?,
-            Step::Settle(number, lots) => settle(rt, centre, &mut orders, number, lots)?,
-            Step::GiveBack(number) => give_back(rt, centre, &mut orders, number)?,
+            Step::Enter(account, side, lots) => enter(rt, centre, orders, account, side, lots)?,
+            Step::Settle(number, lots) => settle(rt, centre, orders, number, lots)?,
+            Step::GiveBack(number) => give_back(rt, centre, orders, number)?,
         }
         show(rt, centre)?;
     }
     Ok(())
+}
+
+// The day's steps. However they end, the lots of the orders that still rest are given back.
+pub fn run<C: Centre>(rt: &HostRuntime, centre: &mut C) -> anyhow::Result<()> {
+    let mut orders = Vec::new(rt.alloc());
+    let taken = take_steps(rt, centre, &mut orders);
+    order::end_all(centre, orders);
+    taken
 }

@@ -54,3 +54,13 @@ pub fn withdraw<C: Centre>(centre: &mut C, order: &mut Resting) -> Result<u64, D
     centre.give_back(grant).unwrap();
     Ok(lots)
 }
+
+// Gives back what is left of each order, and ends it.
+pub fn end_all<C: Centre>(centre: &mut C, mut orders: Vec<Resting>)
+    ensures { C.Centre.same_settings centre.old centre.new }
+{
+    while let Some(order) = orders.pop() {
+        let _ = centre.give_back(order.call_up_all());
+    }
+    orders.destroy_empty();
+}

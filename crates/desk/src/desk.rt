@@ -18,8 +18,7 @@ use page::printed::LINE;
 use page::table::PhraseTable;
 use std::io::{BufRead, Write};
 
-/// A market with the phrases that its answers are printed in.
-#[derive(Drop)]
+/// A market with the phrases that its answers are printed in. Like the market it is never let go: it ends by `into_market`.
 pub struct Desk<R, C> {
     market: Market<R, C>,
     table: PhraseTable,
@@ -41,7 +40,7 @@ impl<R, C> Desk<R, C> {
         }
     }
 
-    /// The market, at the end of a session.
+    /// The market, at the end of a session, to be closed or to go on.
     pub fn into_market(self) -> Market<R, C>
         ensures { result ≡ self.market }
     {

@@ -22,13 +22,15 @@ fn told(error: ServeError) -> anyhow::Error {
     }
 }
 
-// A session of the house, with these phrases, over standard input and output.
+// A session of the house, with these phrases, over standard input and output. However it ends, the market is closed.
 fn serve<R: Input + Print + AllocGlobal>(rt: &R, table: PhraseTable) -> anyhow::Result<()> {
     let heap = rt.alloc();
-    let mut desk = Desk::new(open_house(heap)?, table);
     let mut input = BufReader::new(heap, rt.reader())?;
     let mut output = BufWriter::new(heap, io::writer(rt))?;
-    desk.serve(&mut input, &mut output).map_err(told)
+    let mut desk = Desk::new(open_house(heap)?, table);
+    let served = desk.serve(&mut input, &mut output);
+    let _centre = desk.into_market().close();
+    served.map_err(told)
 }
 
 /// Does what the program's arguments ask for (`read_args`): prints the help, or answers the command lines of standard input

@@ -1,6 +1,7 @@
 pub mod Accepting
 pub mod Books
 pub mod Carried
+mod Closings
 pub mod Counts
 pub mod Entries
 pub mod Fitting

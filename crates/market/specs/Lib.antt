@@ -1,6 +1,7 @@
 pub mod BookState
 pub mod Calls
 pub mod Carry
+pub mod Closing
 pub mod Fits
 pub mod Law
 pub mod Naming

@@ -11,7 +11,8 @@ use crate::standing::ByRule;
 
 /// The queue rule, the period with its terms, the last number given, both queues and the register. Buys wait in one queue
 /// and sells in the other. No number given passes 999,999, and no resting order has more than 1,000,000 lots.
-#[derive(Drop)]
+///
+/// A book is never let go, since lots are held for its orders: it ends with its market (`Market::close`).
 pub struct Book<R> {
     pub(crate) rule: ByRule<R>,
     pub(crate) sitting: Sitting,

@@ -1,6 +1,7 @@
 // A market: the book of one instrument over a clearing centre, and its six calls.
 ghost use Rattle.market.specs.BookState.{state_of};
 ghost use Rattle.market.specs.Calls.{answer, done};
+ghost use Rattle.market.specs.Closing.{ComesBack, NothingStaysHeld, closed};
 ghost use Rattle.market.specs.Fits.{IsMarketReply};
 ghost use Rattle.market.specs.Law.{CallKeepsTheLaw};
 ghost use Rattle.market.specs.State.{new_market, queue_of};
@@ -22,7 +23,7 @@ use dealing::call::Call;
 use dealing::reply::Reply;
 use std::alloc::{AllocError, Global};
 
-#[derive(Drop)]
+/// A book over a clearing centre. It is never let go: it ends by `close`, or is taken apart.
 pub struct Market<R, C> {
     book: Book<R>,
     centre: C,
@@ -59,9 +60,8 @@ impl<R: QueueRule + Drop> Book<R> {
     pub fn new(heap: Global, rule: R) -> Result<Book<R>, AllocError>
         ensures { IfOk result (λ b. (state_of b ≡ new_market) × (b.rule.rule ≡ rule)) }
     {
-        let buys = Queue::new(heap)?;
-        let sells = Queue::new(heap)?;
         let register = Register::new(heap)?;
+        let (buys, sells) = Queue::pair(heap)?;
         let sitting = Sitting {
             period: Period::Unopened,
             low: 0,
@@ -179,5 +179,29 @@ impl<R: QueueRule + Drop, C: Centre + Drop> Market<R, C> {
     {
         let book = Book::new(heap, rule)?;
         Ok(Market { book, centre })
+    }
+
+    /// Closes the market, in any period: every resting order leaves, and its lots are given back to the centre, which is handed
+    /// back with its settings as they are. Buys come before sells, each queue from its first order to its last. An order whose
+    /// lots its account's line does not hold gives none back (cause 5), and no line moves for it.
+    pub fn close(self) -> C
+        ensures lines { C.Centre.lines result ≡ closed (C.Centre.lines self.centre) (state_of self.book) }
+        ensures back { ComesBack (state_of self.book) (C.Centre.lines self.centre) (C.Centre.lines result) }
+        ensures law { NothingStaysHeld (R.QueueRule.rule self.book.rule.rule) (C.Centre.own self.centre)
+            (state_of self.book) (C.Centre.lines self.centre) (C.Centre.lines result) }
+        ensures settings { C.Centre.same_settings self.centre result }
+    {
+        let Market { book, mut centre } = self;
+        let Book {
+            rule: _,
+            sitting: _,
+            last: _,
+            buys,
+            sells,
+            register: _,
+        } = book;
+        buys.close(&mut centre);
+        sells.close(&mut centre);
+        centre
     }
 }

@@ -8,8 +8,8 @@ use clearing::grant::Grant;
 use clearing::resting::Resting;
 use clearing::side::Side;
 
-// The lots that are left, with their account and side, are held at the centre, and can be neither copied nor made here.
-#[derive(Drop)]
+// The lots that are left, with their account and side, are held at the centre, and can be neither copied nor made here. An
+// order is never let go: it ends with no lots left, or when they are all called up.
 pub struct Order {
     pub(crate) number: u32,
     pub(crate) price: i64,
@@ -66,5 +66,28 @@ impl Order {
         ensures lowered { self.new ≡ lowered self.old lots }
     {
         self.resting.call_up(lots).unwrap()
+    }
+
+    // Calls all lots up, with which the order ends.
+    pub(crate) fn call_up_all(self) -> Grant
+        ensures { result ≡ grant_of (account_of self) (side_of self) (lots_of self) }
+    {
+        let Order {
+            number: _,
+            price: _,
+            resting,
+        } = self;
+        resting.call_up_all()
+    }
+
+    // Ends an order that has no lots left.
+    pub(crate) fn end(self)
+        requires { lots_of self ≡ 0 }
+    {
+        let Order {
+            number: _,
+            price: _,
+            resting: _,
+        } = self;
     }
 }

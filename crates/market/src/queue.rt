@@ -10,20 +10,35 @@ use ordered::find;
 use ordered::row::Row;
 use std::alloc::{AllocError, Global};
 
+mod closing;
 mod lowering;
 
 // The orders of one side from first to last, at most 64, for which there is room from the start.
-#[derive(Drop)]
 pub struct Queue {
     orders: Row<Order, 64>,
 }
 
 impl Queue {
-    pub(crate) fn new(heap: Global) -> Result<Queue, AllocError>
+    fn new(heap: Global) -> Result<Queue, AllocError>
         ensures { IfOk result (λ q. q.orders ≡ []) }
     {
         let orders = Row::new(heap)?;
         Ok(Queue { orders })
+    }
+
+    // The two queues of a book, with no orders.
+    pub(crate) fn pair(heap: Global) -> Result<(Queue, Queue), AllocError>
+        ensures { IfOk result (λ q. (q.0.orders ≡ []) × (q.1.orders ≡ [])) }
+    {
+        let first = Queue::new(heap)?;
+        match Queue::new(heap) {
+            Ok(second) => Ok((first, second)),
+            Err(error) => {
+                let Queue { orders } = first;
+                orders.into_vec().destroy_empty();
+                Err(error)
+            }
+        }
     }
 
     pub(crate) fn is_full(&self) -> bool

@@ -10,8 +10,7 @@ use dealing::call::Call;
 use dealing::reply::Reply;
 use std::alloc::{AllocError, Global};
 
-/// The market after a run, and the replies to its calls.
-#[derive(Drop)]
+/// The market after a run, and the replies to its calls. The market is the caller's to close.
 pub struct Ran<R, C> {
     pub market: Market<R, C>,
     pub replies: Vec<Reply>,
@@ -31,8 +30,8 @@ pub fn run<R: QueueRule + Drop, C: Centre + Drop>(
     ensures room { IfOk result (λ x. vec_capacity x.replies ≡ length calls.now) }
     ensures law { RunKeepsTheLaw (R.QueueRule.rule rule) (C.Centre.own centre) (C.Centre.lines centre) calls.now }
 {
-    let mut market = Market::new(heap, rule, centre)?;
     let mut replies = Vec::with_capacity(heap, calls.len())?;
+    let mut market = Market::new(heap, rule, centre)?;
     for call in calls {
         replies.push_reserved(market.call(*call));
     }

@@ -36,6 +36,14 @@ impl<T, const N: usize> Row<T, N> {
         Ok(Row { kept })
     }
 
+    /// The items, from first to last: the end of a row whose items may not simply be let go.
+    pub fn into_vec(self) -> Vec<T>
+        ensures { result.items ≡ self }
+    {
+        let Row { kept } = self;
+        kept
+    }
+
     pub fn len(&self) -> usize
         ensures value { result ≡ length self.now }
         ensures few { length self.now ≤ N }

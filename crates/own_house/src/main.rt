@@ -14,6 +14,7 @@ use dealing::call::Call;
 use market::run::{Ran, run};
 use market::yields::ByYield;
 use std::alloc::Global;
+use std::io;
 
 /// Gives calls to a new market of this house, by yield. Each lot is prepaid by 200 of its account's deposit, and accounts
 /// 201 and 202 are a firm that may come to 60 lots.
@@ -30,9 +31,8 @@ fn run_house(heap: Global, calls: &[Call]) -> anyhow::Result<Ran<ByYield, FirmCa
     Ok(run(heap, ByYield, centre, calls)?)
 }
 
-fn show_day(rt: &HostRuntime) -> anyhow::Result<()> {
-    let calls = day();
-    let ran = run_house(rt.alloc(), &calls)?;
+// What came of the calls: their replies, the trades and the lines.
+fn show_ran(rt: &HostRuntime, calls: &[Call], ran: &Ran<ByYield, FirmCap<PrepaidCentre>>) -> io::Result<()> {
     println!(rt; "Calls and replies\n")?;
     for (call, reply) in calls.iter().zip(ran.replies.as_slice()) {
         show::call(rt, *call)?;
@@ -43,8 +43,17 @@ fn show_day(rt: &HostRuntime) -> anyhow::Result<()> {
         show::trade(rt, trade)?;
     }
     println!(rt; "\nLines\n")?;
-    show::lines(rt, &ran.market, &[201, 202, 203])?;
-    Ok(())
+    show::lines(rt, &ran.market, &[201, 202, 203])
+}
+
+// The market is closed however showing it ends.
+fn show_day(rt: &HostRuntime) -> anyhow::Result<()> {
+    let calls = day();
+    let ran = run_house(rt.alloc(), &calls)?;
+    let shown = show_ran(rt, &calls, &ran);
+    let Ran { market, replies: _ } = ran;
+    let _centre = market.close();
+    Ok(shown?)
 }
 
 fn main(rt: HostRuntime) -> anyhow::Result<()> {

@@ -26,7 +26,9 @@ fn fourth<W: Write>(heap: Global, line: &[u8], out: &mut W) -> anyhow::Result<()
     commands.extend_from_slice(line)?;
     let mut shown = Vec::new(heap);
     let mut desk = Desk::new(open_house(heap)?, english());
-    desk.serve(&mut commands.as_slice(), &mut shown)?;
+    let served = desk.serve(&mut commands.as_slice(), &mut shown);
+    let _centre = desk.into_market().close();
+    served?;
     let answer = shown
         .get(ANSWERED - 87..ANSWERED)
         .context("there are not four answers")?;

@@ -26,7 +26,7 @@ impl Queue {
         ensures { (d : Order) → self.new.orders ≡ cleared_at at d self.old.orders }
     {
         if self.orders.as_slice()[at].lots() == 0 {
-            let _ = self.orders.take(at);
+            self.orders.take(at).unwrap().end();
         }
     }
 
