@@ -1,0 +1,14 @@
+pub mod Again
+pub mod Answers
+pub mod Asked
+pub mod Carried
+pub mod Items
+pub mod Lines
+pub mod Messages
+pub mod Options
+pub mod Rehearsed
+pub mod Replies
+pub mod Shown
+pub mod States
+pub mod Texts
+pub mod Trades
