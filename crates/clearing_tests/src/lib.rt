@@ -1,21 +1,13 @@
-// The clearing centres on examples, worked out by hand from their rules.
+// The clearing centres by hand: grants, and what no market and no setting of a house comes to.
 #![tactic(auto)]
 
 #[cfg(test)]
-mod caps;
+mod ends;
 #[cfg(test)]
-mod deep;
+mod firms;
 #[cfg(test)]
 mod grants;
 #[cfg(test)]
-mod layers;
-#[cfg(test)]
-mod reserving;
-#[cfg(test)]
 mod scene;
-#[cfg(test)]
-mod settings;
-#[cfg(test)]
-mod steps;
 #[cfg(test)]
 mod values;
