@@ -59,18 +59,18 @@ Outcomes of a command that is accepted:
   56 withdrawn   57 reduced   58 suspended   59 resumed   60 opened
 ";
 
-/// What the arguments ask for. A house and phrases stand in files, which are named.
+/// What the arguments ask for. Files are given by their names.
 #[derive(Clone, Copy, PartialEq, Eq, Debug)]
 pub enum Asked<'a> {
     /// The help.
     Help,
-    /// The settings of this house, read and shown.
+    /// A look at the house that the settings in this file set up.
     Check(&'a str),
     /// A session.
     Session {
-        /// The house, or that of `open_house`.
+        /// The file with the settings of the house, or none for the house of `open_house`.
         house: Option<&'a str>,
-        /// The phrases, or the English ones.
+        /// The file with the phrases, or none for the English ones.
         phrases: Option<&'a str>,
     },
 }
