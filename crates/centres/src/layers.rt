@@ -18,7 +18,7 @@ use clearing::line::Line;
 use clearing::side::Side;
 use std::alloc::{AllocError, Global};
 
-/// Firm caps one over the other, the lowest first, over a centre. With none it is that centre.
+/// Firm caps one over the other, the lowest first, over a centre (docs/CENTRE.md, section 9). With none it is as that centre.
 #[derive(Drop)]
 pub struct Layers<C> {
     heap: Global,
@@ -167,9 +167,9 @@ impl<C: Centre> Centre for Layers<C> {
     }
 }
 
-/// With no layer it is the centre below, and a layer more is a firm cap over the others: so any number of layers is as many
-/// nested firm caps.
+/// Layers are nested firm caps: with none there is the centre below, and one more is a firm cap over the others. Lines, own
+/// rule and depth are the same.
 pub fn layers_are_firm_caps<C: Centre>()
-    ensures none { (s : Layers C) → s.tables.items ≡ [] → SameCentre ⟦<Layers<C> as Centre>⟧.lines ⟦<Layers<C> as Centre>⟧.own ⟦<Layers<C> as Centre>⟧.depth s C.Centre.lines C.Centre.own C.Centre.depth s.below }
-    ensures more { (s u : Layers C) (t : FirmTable) → OneMore s t u → SameCentre ⟦<Layers<C> as Centre>⟧.lines ⟦<Layers<C> as Centre>⟧.own ⟦<Layers<C> as Centre>⟧.depth u ⟦<FirmCap<Layers<C>> as Centre>⟧.lines ⟦<FirmCap<Layers<C>> as Centre>⟧.own ⟦<FirmCap<Layers<C>> as Centre>⟧.depth (capped s t) }
+    ensures none { (s : Layers C) → s.tables.items ≡ [] → SameCentre ⟦<Layers<C> as Centre>⟧ s ⟦<C as Centre>⟧ s.below }
+    ensures more { (s u : Layers C) (t : FirmTable) → OneMore s t u → SameCentre ⟦<Layers<C> as Centre>⟧ u ⟦<FirmCap<Layers<C>> as Centre>⟧ (capped s t) }
 {}
