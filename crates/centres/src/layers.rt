@@ -62,6 +62,7 @@ impl<C: Centre> Layers<C> {
     }
 
     /// Puts a layer over all others, with no members, where each firm's cap is 0. Only this asks for memory.
+    #[tactic(auto, using(crate::proofs::Tops::top_put, crate::proofs::Tops::under_put))]
     pub fn add_layer(&mut self) -> Result<(), AllocError>
         ensures { LayerAdded self.old self.new result }
     {
