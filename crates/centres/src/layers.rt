@@ -62,7 +62,7 @@ impl<C: Centre> Layers<C> {
     }
 
     /// Puts a layer over all others, with no members, where each firm's cap is 0. Only this asks for memory.
-    #[tactic(auto, using(crate::proofs::Tops::top_put, crate::proofs::Tops::under_put))]
+    #[tactic(auto, using(crate::proofs::Tops::tops))]
     pub fn add_layer(&mut self) -> Result<(), AllocError>
         ensures { LayerAdded self.old self.new result }
     {
@@ -72,6 +72,7 @@ impl<C: Centre> Layers<C> {
     }
 
     /// Places an account in a firm of the highest layer. With no layer it is cause 6, at the depth of the centre below.
+    #[tactic(auto, using(crate::proofs::Tops::tops))]
     pub fn place(&mut self, account: i64, firm: u64) -> Result<(), Denial>
         ensures { PlacedOnTop (C.Centre.depth self.old.below) self.old account firm self.new result }
     {
@@ -84,6 +85,7 @@ impl<C: Centre> Layers<C> {
     }
 
     /// Sets the cap of a firm of the highest layer. With no layer it is cause 6, at the depth of the centre below.
+    #[tactic(auto, using(crate::proofs::Tops::tops))]
     pub fn set_cap(&mut self, firm: u64, cap: u64) -> Result<(), Denial>
         ensures { CapSetOnTop (C.Centre.depth self.old.below) self.old firm cap self.new result }
     {
