@@ -1,6 +1,6 @@
-// Command lines, read to calls or refused.
-use clearing::side::Side;
-use dealing::call::{Call, Entry, Kind, Rest};
+// Command lines, read to calls or refused: what a page of answers does not show. That page, with a line for each way in which
+// a command is malformed, is run by `program_runs`.
+use dealing::call::Call;
 use dealing::refusal::Refusal;
 use page::command::read;
 
@@ -16,74 +16,8 @@ const SUSPEND: &[u8; 37] = b"H                                    ";
 
 const RESUME: &[u8; 37] = b"G                                    ";
 
-fn reads(line: &[u8], call: Call) -> bool {
-    read(line) == Ok(call)
-}
-
 fn refused(line: &[u8], refusal: Refusal) -> bool {
     read(line) == Err(refusal)
-}
-
-#[test]
-fn six_calls(rt: HostRuntime) {
-    assert!(rt;
-        reads(
-            OPEN,
-            Call::Open {
-                low: 1,
-                high: 100_000,
-                deviation: 50,
-            },
-        )
-    );
-    let entry = Entry {
-        account: 102,
-        side: Side::Buy,
-        kind: Kind::Limited,
-        rest: Rest::Queue,
-        price: 7005,
-        lots: 15,
-    };
-    assert!(rt; reads(ENTER, Call::Enter(entry)));
-    assert!(rt;
-        reads(
-            WITHDRAW,
-            Call::Withdraw {
-                account: 101,
-                number: 1,
-            },
-        )
-    );
-    assert!(rt;
-        reads(
-            REDUCE,
-            Call::Reduce {
-                account: 101,
-                number: 1,
-                lots: 4,
-            },
-        )
-    );
-    assert!(rt; reads(SUSPEND, Call::Suspend));
-    assert!(rt; reads(RESUME, Call::Resume));
-}
-
-#[test]
-fn lengths(rt: HostRuntime) {
-    let long = b"O             1     100000         50 ";
-    assert!(rt; refused(&long[0..0], Refusal::CommandLength));
-    assert!(rt; refused(&long[0..36], Refusal::CommandLength));
-    assert!(rt;
-        reads(
-            &long[0..37],
-            Call::Open {
-                low: 1,
-                high: 100_000,
-                deviation: 50,
-            },
-        )
-    );
-    assert!(rt; refused(&long[0..38], Refusal::CommandLength));
 }
 
 // Whether a byte is due in one of the columns 2 to 4, here 1 to 3.
@@ -152,59 +86,12 @@ fn numbers(rt: HostRuntime) {
     ];
     for (field, number) in right {
         assert!(rt;
-            reads(
-                &reduction(field),
-                Call::Reduce {
+            read(&reduction(field))
+                == Ok(Call::Reduce {
                     account: 101,
                     number,
                     lots: 4,
-                },
-            )
+                })
         );
     }
-    let wrong: [&[u8; 11]; 16] = [
-        b"           ",
-        b"       0103",
-        b"00000000000",
-        b"         -0",
-        b"        -01",
-        b"          -",
-        b"     - 7000",
-        b"      +7001",
-        b"101        ",
-        b"         1 ",
-        b"       1 03",
-        b"      1,000",
-        b"       1.00",
-        b"       \t100",
-        b"       \xff100",
-        b"    --12345",
-    ];
-    for field in wrong {
-        assert!(rt; refused(&reduction(field), Refusal::CommandNumber));
-    }
-}
-
-// Filled fields where blanks are due, and blank ones where numbers are.
-#[test]
-fn fields_due(rt: HostRuntime) {
-    let mut line = *WITHDRAW;
-    line[36] = b'4';
-    assert!(rt; refused(&line, Refusal::CommandNumber));
-    let mut line = *SUSPEND;
-    line[14] = b'1';
-    assert!(rt; refused(&line, Refusal::CommandNumber));
-    let mut line = *RESUME;
-    line[36] = b'1';
-    assert!(rt; refused(&line, Refusal::CommandNumber));
-    let mut line = *OPEN;
-    line[26..37].copy_from_slice(b"           ");
-    assert!(rt; refused(&line, Refusal::CommandNumber));
-    let mut line = *ENTER;
-    line[3] = b'q';
-    line[14] = b'x';
-    assert!(rt;
-        refused(&line, Refusal::CommandLetter),
-        "letters go before numbers"
-    );
 }

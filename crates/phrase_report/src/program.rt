@@ -40,29 +40,38 @@ fn judge<W: Write>(out: &mut W, text: &[u8]) -> anyhow::Result<()>
     }
 }
 
-/// Does what the program's arguments ask for (`read_args`): prints the help, or reports by `show` on the
-/// text of a file or of standard input.
+/// Does what these arguments ask for (`read_args`), with this input and output: prints the help, or reports by `show` on the
+/// text of a file or of the input.
 ///
-/// An error gives status 1, and says what went wrong: the arguments, the text that cannot be read with
-/// the system's reason, the output, or that the text sets no table.
-pub fn run<R: Env + Files + Input + Print + AllocGlobal>(rt: &R) -> anyhow::Result<()> {
-    let args: Vec<String> = env::args(rt)?.skip(1).collect(rt.alloc())?;
-    let mut out = io::writer(rt);
-    match read_args(args.as_slice())? {
+/// An error says what went wrong: the arguments, the text that cannot be read with the system's reason, the output, or that
+/// the text sets no table.
+pub fn run_with<R: Files + Alloc, I: Read, O: Write>(
+    rt: &R,
+    args: &[String],
+    input: &mut I,
+    output: &mut O,
+) -> anyhow::Result<()> {
+    match read_args(args)? {
         Asked::Help => {
-            out.write_all(HELP.as_bytes())?;
+            output.write_all(HELP.as_bytes())?;
             Ok(())
         }
         Asked::Input => {
             let mut text = Vec::new(rt.alloc());
-            rt.reader()
+            input
                 .read_to_end(&mut text)
                 .context("reading standard input")?;
-            judge(&mut out, text.as_slice())
+            judge(output, text.as_slice())
         }
         Asked::File(name) => {
             let text = fs::read(rt, name).context(format_args!("reading {name}"))?;
-            judge(&mut out, text.as_slice())
+            judge(output, text.as_slice())
         }
     }
+}
+
+/// The program: does what its arguments ask for (`run_with`), with standard input and output. An error gives status 1.
+pub fn run<R: Env + Files + Input + Print + AllocGlobal>(rt: &R) -> anyhow::Result<()> {
+    let args: Vec<String> = env::args(rt)?.skip(1).collect(rt.alloc())?;
+    run_with(rt, args.as_slice(), &mut rt.reader(), &mut io::writer(rt))
 }
