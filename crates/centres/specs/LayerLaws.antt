@@ -5,6 +5,7 @@ use Rattle.std.proofs.Math.Nat.{min-le_right}
 use Rattle.std.proofs.Math.Path.{fun_ext}
 use Rattle.clearing.specs.Cause.{denied}
 use Rattle.clearing.specs.Centre.{Denies, Lines, Own}
+use Rattle.clearing.specs.declared.centre.Centre.{Ghosts as CentreOf}
 use Rattle.clearing.specs.declared.cause.Cause.TheVariants.{OverFirmCap}
 use Rattle.clearing.specs.declared.cause.Denial.{Denial}
 use Rattle.centres.specs.Firms.{cap_no, cap_own, first_no, layer_over}
@@ -21,9 +22,9 @@ first_no_first : (x y z : Option Denial) → first_no x (first_no y z) ≡ first
 first_no_first None y z = refl
 first_no_first (Some d) y z = refl
 
--- a state x of one centre and y of another have the same lines, own rule and depth
-abbrev pub SameCentre : {X Y : Type 0} → (X → Lines) → (X → Own) → (X → ℕ) → X → (Y → Lines) → (Y → Own) → (Y → ℕ) → Y → Type 0
-SameCentre lines own depth x lines' own' depth' y = (lines x ≡ lines' y) × (own x ≡ own' y) × (depth x ≡ depth' y)
+-- a state x of one centre and a state y of another have the same lines, the same own rule and the same depth
+abbrev pub SameCentre : {X Y : Type 0} → CentreOf X → X → CentreOf Y → Y → Type 0
+SameCentre p x q y = (p.lines x ≡ q.lines y) × (p.own x ≡ q.own y) × (p.depth x ≡ q.depth y)
 
 -- with the table t over all its layers, s becomes u
 abbrev pub OneMore : {C : Type 0} → Layers C → FirmTable → Layers C → Type 0

@@ -18,7 +18,7 @@ use clearing::line::Line;
 use clearing::side::Side;
 use std::alloc::{AllocError, Global};
 
-/// Firm caps one over the other, the lowest first, over a centre. With none it is that centre.
+/// Firm caps one over the other, the lowest first, over a centre (docs/CENTRE.md, section 9). With none it is as that centre.
 #[derive(Drop)]
 pub struct Layers<C> {
     heap: Global,
@@ -62,6 +62,7 @@ impl<C: Centre> Layers<C> {
     }
 
     /// Puts a layer over all others, with no members, where each firm's cap is 0. Only this asks for memory.
+    #[tactic(auto, using(crate::proofs::Tops::tops))]
     pub fn add_layer(&mut self) -> Result<(), AllocError>
         ensures { LayerAdded self.old self.new result }
     {
@@ -71,6 +72,7 @@ impl<C: Centre> Layers<C> {
     }
 
     /// Places an account in a firm of the highest layer. With no layer it is cause 6, at the depth of the centre below.
+    #[tactic(auto, using(crate::proofs::Tops::tops))]
     pub fn place(&mut self, account: i64, firm: u64) -> Result<(), Denial>
         ensures { PlacedOnTop (C.Centre.depth self.old.below) self.old account firm self.new result }
     {
@@ -83,6 +85,7 @@ impl<C: Centre> Layers<C> {
     }
 
     /// Sets the cap of a firm of the highest layer. With no layer it is cause 6, at the depth of the centre below.
+    #[tactic(auto, using(crate::proofs::Tops::tops))]
     pub fn set_cap(&mut self, firm: u64, cap: u64) -> Result<(), Denial>
         ensures { CapSetOnTop (C.Centre.depth self.old.below) self.old firm cap self.new result }
     {
@@ -167,9 +170,9 @@ impl<C: Centre> Centre for Layers<C> {
     }
 }
 
-/// With no layer it is the centre below, and a layer more is a firm cap over the others: so any number of layers is as many
-/// nested firm caps.
+/// Layers are nested firm caps: with none there is the centre below, and one more is a firm cap over the others. Lines, own
+/// rule and depth are the same.
 pub fn layers_are_firm_caps<C: Centre>()
-    ensures none { (s : Layers C) → s.tables.items ≡ [] → SameCentre ⟦<Layers<C> as Centre>⟧.lines ⟦<Layers<C> as Centre>⟧.own ⟦<Layers<C> as Centre>⟧.depth s C.Centre.lines C.Centre.own C.Centre.depth s.below }
-    ensures more { (s u : Layers C) (t : FirmTable) → OneMore s t u → SameCentre ⟦<Layers<C> as Centre>⟧.lines ⟦<Layers<C> as Centre>⟧.own ⟦<Layers<C> as Centre>⟧.depth u ⟦<FirmCap<Layers<C>> as Centre>⟧.lines ⟦<FirmCap<Layers<C>> as Centre>⟧.own ⟦<FirmCap<Layers<C>> as Centre>⟧.depth (capped s t) }
+    ensures none { (s : Layers C) → s.tables.items ≡ [] → SameCentre ⟦<Layers<C> as Centre>⟧ s ⟦<C as Centre>⟧ s.below }
+    ensures more { (s u : Layers C) (t : FirmTable) → OneMore s t u → SameCentre ⟦<Layers<C> as Centre>⟧ u ⟦<FirmCap<Layers<C>> as Centre>⟧ (capped s t) }
 {}

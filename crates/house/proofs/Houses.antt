@@ -1,6 +1,7 @@
 -- A house from its parts. Assumes nothing.
 use Rattle.std.proofs.Common.{◌≡◌, true, false, [], Some, None, Ok, Err, refl, sym, ap, ◌∙◌}
 use Rattle.clearing.specs.Ledger.{allowances_of, lines_of}
+use Rattle.house.proofs.Values.{lines_said, values_said}
 use Rattle.house.specs.Built.{AccountsAdded, LayersBuilt, accounts_fit, margin_said, with_lines, with_values}
 use Rattle.house.specs.House.{Base, HouseCentre, margin_of, rows_of}
 use Rattle.house.specs.Read.{HouseMade, fits}
@@ -24,7 +25,7 @@ module _ (w : Written) (b : Base) (kind : margin_said w.kind ≡ Some (margin_of
       let lines0 : lines_of (rows_of b') ≡ with_lines w.accounts (λ a. None) = rw none at lines in
       let values0 : allowances_of (rows_of b') ≡ with_values w.accounts (λ a. None) = rw none at values in (
         rw (kind, fit0, fit') refl,
-        (rule, rw at (kind ∙ ap Some (sym margin)), rw at values0, rw at lines0, layers),
+        (rule, rw at (kind ∙ ap Some (sym margin)), rw at (λ a. ap (λ f. f a) values0 ∙ values_said w.accounts a), rw at (λ a. ap (λ f. f a) lines0 ∙ lines_said w.accounts a), layers),
       )
 
   pub no_layers : (b' : Base) (c c' : HouseCentre) (e : Stop) → AccountsAdded b w.accounts b' (Ok tt) → LayersBuilt c w.layers c' (Err e) → IsRefusal e → fits w ≡ false

@@ -7,6 +7,7 @@ use Rattle.std.proofs.lemmas.Option.{get_or_from_slice_get, slice_get_within}
 use Rattle.centres.specs.Firms.{firm_of}
 use Rattle.centres.specs.Layers.{IsUnset, top_of, under_top}
 use Rattle.centres.specs.declared.firm_table.FirmTable.{FirmTable}
+use Rattle.house.proofs.Values.{values_said}
 use Rattle.house.specs.Built.{AreLayers, CapsSet, IsLayer, LayerBuilt, MembersAdded, caps_in, layer_fits, members_fit, members_in, top_caps, top_members, with_caps, with_values}
 use Rattle.house.specs.House.{HouseCentre}
 use Rattle.house.specs.Settings.{CapText}
@@ -31,7 +32,7 @@ no_members c d l e new h refusal =
 
 is_layer : (o : Option FirmTable) (l : CapText) → is_some o ≡ true → firm_of (members_in o) ≡ with_values l.members (λ a. None) → caps_in o ≡ with_caps l.caps (replicate 8 0) → IsLayer l o
 is_layer None l none members caps = absurd (false≢true none)
-is_layer (Some t) l some members caps = (members, caps)
+is_layer (Some t) l some members caps = (λ a. ap (λ f. f a) members ∙ values_said l.members a, caps)
 
 -- with its members placed, the caps of the new layer make it the one that is written, or there is one that it does not take
 pub with_all : (b c d e : HouseCentre) (l : CapText) (r : Result (Unit {0}) Stop) → Unset (top_of c.tables.items) → under_top c.tables.items ≡ b.tables.items → c.below ≡ b.below → MembersAdded c l.members d (Ok tt) → CapsSet d l.caps e r → LayerBuilt b l e r

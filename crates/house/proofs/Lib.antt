@@ -4,3 +4,4 @@ pub mod AccountSteps
 pub mod LayerSteps
 pub mod LayerJoins
 pub mod Houses
+pub mod Values

@@ -12,6 +12,7 @@ use Rattle.clearing.specs.Centre.{Lines}
 use Rattle.clearing.specs.Ledger.{allowances_of, lines_of}
 use Rattle.clearing.specs.Line.{empty}
 use Rattle.clearing.specs.Table.{with_entry}
+use Rattle.ordered.specs.Key.{eq_z}
 use Rattle.house.specs.House.{Base, HouseCentre, allowance_fits, amount, cap_in_range, firm_in_range, from_zero, margin_of, passes, rows_of}
 use Rattle.house.specs.Settings.{CapText}
 use Rattle.house.specs.Stop.{IsRefusal}
@@ -48,6 +49,16 @@ with_lines (e ∷ es) L = with_lines es (with_entry L e.number empty)
 abbrev pub with_values : List Entry → (ℤ → Option ℕ) → ℤ → Option ℕ
 with_values [] f = f
 with_values (e ∷ es) f = with_values es (with_entry f e.number (amount e.value))
+
+-- the first of two that is there
+abbrev pub or_else : {A : Type 0} → Option A → Option A → Option A
+or_else None o = o
+or_else (Some x) o = Some x
+
+-- what the entries say of a number, the last of them where it stands in more than one
+abbrev pub value_at : List Entry → ℤ → Option ℕ
+value_at [] a = None
+value_at (e ∷ es) a = or_else (value_at es a) (cond (eq_z e.number a) (Some (amount e.value)) None)
 
 -- the accounts are added, or there is one that can't be
 abbrev pub AccountsAdded : Base → List Entry → Base → Result (Unit {0}) Stop → Type 0
@@ -114,7 +125,7 @@ layer_fits l = members_fit l.members 0 (λ a. None) && caps_fit l.caps []
 -- a table is the firm cap that is written
 abbrev pub IsLayer : CapText → Option FirmTable → Type 0
 IsLayer l None = ⊥
-IsLayer l (Some t) = (firm_of t.members ≡ with_values l.members (λ a. None)) × (t.caps ≡ with_caps l.caps (replicate 8 0))
+IsLayer l (Some t) = ((a : ℤ) → firm_of t.members a ≡ value_at l.members a) × (t.caps ≡ with_caps l.caps (replicate 8 0))
 
 abbrev pub LayerBuilt : HouseCentre → CapText → HouseCentre → Result (Unit {0}) Stop → Type 0
 LayerBuilt c l c' (Ok x) = (layer_fits l ≡ true) × IsLayer l (top_of c'.tables.items) × (under_top c'.tables.items ≡ c.tables.items) × (c'.below ≡ c.below)

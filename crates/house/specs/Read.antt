@@ -1,8 +1,9 @@
 -- The house that a text says, or that it says none. Assumes nothing.
-use Rattle.std.specs.Prelude.{◌≡◌, ℕ, Bool, true, false, ◌&&◌, List, Some, None, Ok, Err, Option, Result, option_and_then, ⊤}
+use Rattle.std.specs.Prelude.{◌≡◌, ℕ, Bool, true, false, ◌&&◌, List, Some, None, Ok, Err, Option, Result, option_and_then, option_map, ℤ, ⊤}
 use Rattle.clearing.specs.Ledger.{allowances_of, lines_of}
+use Rattle.clearing.specs.Line.{empty}
 use Rattle.toml.specs.Parse.{parse_document}
-use Rattle.house.specs.Built.{AreLayers, accounts_fit, layers_fit, margin_said, with_lines, with_values}
+use Rattle.house.specs.Built.{AreLayers, accounts_fit, layers_fit, margin_said, value_at}
 use Rattle.house.specs.Document.{settings_of}
 use Rattle.house.specs.House.{margin_of, passes, rows_of}
 use Rattle.house.specs.Settings.{Written}
@@ -25,8 +26,8 @@ abbrev pub Means : Written → House → Type 0
 Means w h =
     (h.rule ≡ w.rule)
     × (margin_said w.kind ≡ Some (margin_of h.centre.below))
-    × (allowances_of (rows_of h.centre.below) ≡ with_values w.accounts (λ a. None))
-    × (lines_of (rows_of h.centre.below) ≡ with_lines w.accounts (λ a. None))
+    × ((a : ℤ) → allowances_of (rows_of h.centre.below) a ≡ value_at w.accounts a)
+    × ((a : ℤ) → lines_of (rows_of h.centre.below) a ≡ option_map (λ _. empty) (value_at w.accounts a))
     × AreLayers w.layers h.centre.tables.items
 
 abbrev pub HouseMade : Written → Result House Stop → Type 0

@@ -1,23 +1,5 @@
-// The market on examples, worked out by hand from the floor's rules.
+// What no scenario can say of a market: what it answers over a centre that was put in place of another.
 #![tactic(auto)]
 
 #[cfg(test)]
 mod centre_changed;
-#[cfg(test)]
-mod market_entries;
-#[cfg(test)]
-mod room;
-#[cfg(test)]
-mod runs;
-#[cfg(test)]
-mod scene;
-#[cfg(test)]
-mod steps;
-#[cfg(test)]
-mod terms;
-#[cfg(test)]
-mod view;
-#[cfg(test)]
-mod walks;
-#[cfg(test)]
-mod worked;

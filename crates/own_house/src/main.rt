@@ -32,7 +32,11 @@ fn run_house(heap: Global, calls: &[Call]) -> anyhow::Result<Ran<ByYield, FirmCa
 }
 
 // What came of the calls: their replies, the trades and the lines.
-fn show_ran(rt: &HostRuntime, calls: &[Call], ran: &Ran<ByYield, FirmCap<PrepaidCentre>>) -> io::Result<()> {
+fn show_ran(
+    rt: &HostRuntime,
+    calls: &[Call],
+    ran: &Ran<ByYield, FirmCap<PrepaidCentre>>,
+) -> io::Result<()> {
     println!(rt; "Calls and replies\n")?;
     for (call, reply) in calls.iter().zip(ran.replies.as_slice()) {
         show::call(rt, *call)?;

@@ -177,6 +177,6 @@ pub fn rehearse<W: Write>(heap: Global, text: &str, out: &mut W) -> Result<(), R
     let market = Market::new(heap, house.rule, house.centre)?;
     let first = said.len().saturating_add(2);
     let (market, carried) = carry_lines(heap, out, asked, first, market);
-    drop(market);
+    let _centre = market.close();
     carried
 }
