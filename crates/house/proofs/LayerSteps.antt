@@ -4,7 +4,7 @@ use Rattle.std.proofs.lemmas.Bool.{false≢true}
 use Rattle.std.proofs.lemmas.List.Edits.{length-insert}
 use Rattle.std.specs.Result.{is_err}
 use Rattle.centres.specs.Firms.{Placed, firm_of, member_before, member_of}
-use Rattle.centres.specs.Layers.{Becomes, passes_at, under_top}
+use Rattle.centres.specs.Layers.{Becomes, passes, under_top}
 use Rattle.centres.specs.declared.firm_table.FirmTable.{FirmTable}
 use Rattle.clearing.specs.declared.cause.Denial.{Denial}
 use Rattle.house.specs.Built.{caps_in, has_layer, has_number, caps_fit, members_fit, members_in, top_caps, top_members, with_caps, with_values}
@@ -40,7 +40,7 @@ took (Some t) (Some u) e es (can, (items, shows), caps) =
       caps = caps;
     }
 
-refuses : (o : Option FirmTable) (e : Entry) (es : List Entry) → is_some o ≡ true → passes_at (λ t. can_place_in t.members e.number e.value) o ≡ false → members_fit (e ∷ es) (length (members_in o)) (firm_of (members_in o)) ≡ false
+refuses : (o : Option FirmTable) (e : Entry) (es : List Entry) → is_some o ≡ true → passes (λ t. can_place_in t.members e.number e.value) o ≡ false → members_fit (e ∷ es) (length (members_in o)) (firm_of (members_in o)) ≡ false
 refuses None e es none h = absurd (false≢true none)
 refuses (Some t) e es some h = rw h refl
 
@@ -79,7 +79,7 @@ set_to (Some t) (Some u) e es done once (can, caps, members) = record {
   members = members;
 }
 
-stops : (o : Option FirmTable) (e : Entry) (es done : List Entry) → is_some o ≡ true → has_number e.number done ≡ false → passes_at (λ t. firm_in_range e.number && cap_in_range e.value) o ≡ false → caps_fit (e ∷ es) done ≡ false
+stops : (o : Option FirmTable) (e : Entry) (es done : List Entry) → is_some o ≡ true → has_number e.number done ≡ false → passes (λ t. firm_in_range e.number && cap_in_range e.value) o ≡ false → caps_fit (e ∷ es) done ≡ false
 stops None e es done none once h = absurd (false≢true none)
 stops (Some t) e es done some once h = rw (once, h) refl
 

@@ -2,7 +2,7 @@
 use Rattle.std.specs.Prelude.{◌≡◌, ℕ, ◌-◌, Bool, true, false, ◌&&◌, List, ℤ, pos, negsuc, Some, None, Ok, Err, Option, Result, nat_le, slice_set, unwrap_or}
 use Rattle.centres.specs.Either.{either_of}
 use Rattle.centres.specs.Firms.{Placed, can_place, cap_fits, firm_fits}
-use Rattle.centres.specs.Layers.{TopSet, depth_over, with_below}
+use Rattle.centres.specs.Layers.{TopSet, with_below}
 use Rattle.centres.specs.Rules.{deposit_max, limit_max}
 use Rattle.centres.specs.declared.either.Either.{Either}
 use Rattle.centres.specs.declared.firm_table.Member.{Member}
@@ -67,17 +67,13 @@ AddedToBase b a z b' (Err d) = ((allowance_fits (margin_of b) z && can_add (rows
 abbrev pub AccountAdded : HouseCentre → ℤ → ℤ → HouseCentre → Result (Unit {0}) Denial → Type 0
 AccountAdded c a z c' r = AddedToBase c.below a z c'.below r × (c' ≡ with_below c c'.below)
 
--- the depth of the highest layer, over a centre at depth 0
-abbrev pub house_depth : HouseCentre → ℕ
-house_depth c = depth_over c.tables.items 0
-
 abbrev pub can_place_in : List Member → ℤ → ℤ → Bool
 can_place_in ms a z = passes (can_place ms a) (from_zero z)
 
--- an account is placed in a firm of the highest layer, or by cause 6 of that layer nothing changes
+-- an account is placed in a firm of the highest layer, over a centre at depth 0, or by cause 6 of that layer nothing changes
 abbrev pub PlacedTo : HouseCentre → ℤ → ℤ → HouseCentre → Result (Unit {0}) Denial → Type 0
-PlacedTo c a z = TopSet (λ t. can_place_in t.members a z) (λ t u. (can_place_in t.members a z ≡ true) × Placed t.members a (amount z) u.members × (u.caps ≡ t.caps)) (house_depth c) c
+PlacedTo c a z = TopSet (λ t. can_place_in t.members a z) (λ t u. (can_place_in t.members a z ≡ true) × Placed t.members a (amount z) u.members × (u.caps ≡ t.caps)) 0 c
 
--- a firm's cap is set in the highest layer, or by cause 6 of that layer nothing changes
+-- a firm's cap is set in the highest layer, over a centre at depth 0, or by cause 6 of that layer nothing changes
 abbrev pub CapSetTo : HouseCentre → ℤ → ℤ → HouseCentre → Result (Unit {0}) Denial → Type 0
-CapSetTo c f z = TopSet (λ t. firm_in_range f && cap_in_range z) (λ t u. ((firm_in_range f && cap_in_range z) ≡ true) × (u.caps ≡ slice_set t.caps (amount f - 1) (amount z)) × (u.members ≡ t.members)) (house_depth c) c
+CapSetTo c f z = TopSet (λ t. firm_in_range f && cap_in_range z) (λ t u. ((firm_in_range f && cap_in_range z) ≡ true) × (u.caps ≡ slice_set t.caps (amount f - 1) (amount z)) × (u.members ≡ t.members)) 0 c
