@@ -6,7 +6,7 @@ use anyhow::anyhow;
 use std::alloc::Global;
 use std::env::Env;
 use std::fs::Files;
-use std::io::{BufWriter, Input, Print, Write};
+use std::io::{BufWriter, Input, Print, Read, Write};
 use std::{env, fs, io};
 
 /// What `--help` prints: what a scenario is, its lines, and one example.
@@ -64,13 +64,24 @@ pub fn read_args(args: &[String]) -> Task<'_>
 {
     match args {
         [] => Task::Input,
-        [word] if word.as_str() == "--help" => Task::Help,
+        [word] => {
+            if word.as_str() == "--help" {
+                Task::Help
+            } else {
+                Task::Files(args)
+            }
+        }
         _ => Task::Files(args),
     }
 }
 
 /// Rehearses a scenario, and names it where it ends before its last line.
-fn rehearse_named<W: Write>(heap: Global, name: &str, text: &str, out: &mut W) -> anyhow::Result<()> {
+fn rehearse_named<W: Write>(
+    heap: Global,
+    name: &str,
+    text: &[u8],
+    out: &mut W,
+) -> anyhow::Result<()> {
     rehearse(heap, text, out).map_err(|error| anyhow!("{name}, {error}"))
 }
 
@@ -80,11 +91,11 @@ pub fn rehearse_file<R: Files + AllocGlobal, W: Write>(
     name: &str,
     out: &mut W,
 ) -> anyhow::Result<()> {
-    let text = match fs::read_to_string(rt, name) {
+    let text = match fs::read(rt, name) {
         Ok(text) => text,
         Err(error) => return Err(anyhow!("{name}: {error}")),
     };
-    rehearse_named(rt.alloc(), name, text.as_str(), out)
+    rehearse_named(rt.alloc(), name, text.as_slice(), out)
 }
 
 /// Does what the program's arguments ask for (`read_args`): prints the help, or rehearses the scenarios of files or of
@@ -99,8 +110,9 @@ pub fn run<R: Env + Files + Input + Print + AllocGlobal>(rt: &R) -> anyhow::Resu
     let done = match read_args(args.as_slice()) {
         Task::Help => out.write_all(HELP.as_bytes()).map_err(anyhow::Error::from),
         Task::Input => {
-            let text = io::read_to_string(heap, rt.reader())?;
-            rehearse_named(heap, "standard input", text.as_str(), &mut out)
+            let mut text = Vec::new(heap);
+            rt.reader().read_to_end(&mut text)?;
+            rehearse_named(heap, "standard input", text.as_slice(), &mut out)
         }
         Task::Files(files) => rehearse_files(rt, files, &mut out),
     };

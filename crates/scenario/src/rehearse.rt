@@ -48,12 +48,18 @@ fn show_view<W: Write, R: QueueRule, C: HouseFloor>(
     }
 }
 
-fn show_answer<W: Write>(out: &mut W, words: &[&str], answer: Answer) -> io::Result<()>
-    ensures { OnOk result (Appends (W.contents out.old) (W.contents out.new) (line_text words.now (answer_text answer))) }
+fn write_answer<W: Write>(out: &mut W, answer: &Answer) -> io::Result<()>
+    ensures { OnOk result (Appends (W.contents out.old) (W.contents out.new) (answer_text answer.now)) }
+{
+    write!(out, "{answer}")
+}
+
+fn show_answer<W: Write>(out: &mut W, words: &[&str], answer: &Answer) -> io::Result<()>
+    ensures { OnOk result (Appends (W.contents out.old) (W.contents out.new) (line_text words.now (answer_text answer.now))) }
 {
     show_words(out, words)?;
     out.write_all(b" = ")?;
-    write!(out, "{answer}")?;
+    write_answer(out, answer)?;
     out.write_all(b"\n")
 }
 
@@ -106,7 +112,7 @@ fn carry_words<W: Write, R: QueueRule, C: HouseFloor>(
     match read(words) {
         Ok(Asked::Do(action)) => {
             let (market, answer) = carry_out(market, action);
-            let shown = show_answer(out, words, answer);
+            let shown = show_answer(out, words, &answer);
             (market, shown.map_err(Stop::Io))
         }
         Ok(Asked::Show(view)) => {
@@ -161,7 +167,22 @@ fn joined(heap: Global, lines: &[&str]) -> Result<String, AllocError> {
 /// Rehearses a scenario: sets up the house that its settings say, up to the line `---`, and carries out the lines after it.
 /// Each is printed with its answer, but for blank ones and comments. A line that cannot be read ends it; what came before
 /// stays printed.
-pub fn rehearse<W: Write>(heap: Global, text: &str, out: &mut W) -> Result<(), RehearsalError> {
+pub fn rehearse<W: Write>(heap: Global, text: &[u8], out: &mut W) -> Result<(), RehearsalError> {
+    match std::str::from_utf8(text) {
+        Ok(text) => rehearse_text(heap, text, out),
+        Err(error) => Err(RehearsalError::NotUtf8 {
+            line: line_at(text, error.valid_up_to()),
+        }),
+    }
+}
+
+// The line on which a byte stands, counted from 1.
+fn line_at(text: &[u8], byte: usize) -> usize {
+    let before = text.iter().take(byte).filter(|b| **b == b'\n').count();
+    before.saturating_add(1)
+}
+
+fn rehearse_text<W: Write>(heap: Global, text: &str, out: &mut W) -> Result<(), RehearsalError> {
     let lines: Vec<&str> = text.lines().collect(heap)?;
     let lines = lines.as_slice();
     let end = lines.iter().position(|line| *line == "---");
