@@ -27,7 +27,7 @@ words. Each line is printed again, with ` = ` and its answer behind it.
 
   B buy, S sell; L limited, M market with price 0; Q the rest joins the queue,
   T the rest is taken off, F all lots trade or the entry is refused
-  # as the first character of a line makes it a comment
+  # at the beginning of a line makes it a comment
 
 A refusal is shown as its number, an outcome with the order's number and its
 lots. An example:
