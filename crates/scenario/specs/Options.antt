@@ -1,5 +1,5 @@
 -- What the program's arguments ask for. Assumes nothing.
-use Rattle.std.specs.Prelude.{◌≡◌, ⊤, List, [], ◌∷◌, MatchBool, codes, string_bytes, String}
+use Rattle.std.specs.Prelude.{◌≡◌, List, [], ◌∷◌, MatchBool, codes, string_bytes, String}
 use Rattle.std.specs.Str.{bytes_eq}
 use Rattle.std.specs.declared.alloc.Global.{Global}
 use Rattle.scenario.specs.declared.program.Task.{Task}
