@@ -27,8 +27,6 @@ impl Stop {
 /// Why a rehearsal ends. Lines are counted from 1.
 #[derive(Debug, Drop)]
 pub enum RehearsalError {
-    /// The text is not UTF-8; the line has the first byte that is none.
-    NotUtf8 { line: usize },
     /// No line `---` ends the settings; the line is the one after the last.
     NoEnd { line: usize },
     /// The settings are not those of a house.
@@ -43,7 +41,6 @@ pub enum RehearsalError {
 impl fmt::Display for RehearsalError {
     fn fmt<W: fmt::Write>(&self, f: &mut fmt::Formatter<W>) -> fmt::Result {
         match self {
-            RehearsalError::NotUtf8 { line } => write!(f, "line {line}: expected UTF-8"),
             RehearsalError::NoEnd { line } => {
                 write!(f, "line {line}: expected --- after the settings")
             }
