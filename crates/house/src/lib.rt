@@ -8,7 +8,6 @@ pub mod error;
 mod line;
 pub mod place;
 pub mod read;
-pub mod report;
 pub mod rule;
 pub mod settings;
 mod stop;
