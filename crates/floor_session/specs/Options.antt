@@ -92,11 +92,11 @@ with_file o option file =
 abbrev pub with_option : Options → Word → Result Options (List ℕ)
 with_option o word =
     if bytes_eq word (codes "--house") then
-        (if is_some o.house then Err (twice word) else Ok (record o { due = Some word }))
+    (if is_some o.house then Err (twice word) else Ok (record o { due = Some word }))
     else if bytes_eq word (codes "--phrases") then
-        (if is_some o.phrases then Err (twice word) else Ok (record o { due = Some word }))
+    (if is_some o.phrases then Err (twice word) else Ok (record o { due = Some word }))
     else if bytes_eq word (codes "--check") then
-        (if o.check then Err (twice word) else Ok (record o { check = true }))
+    (if o.check then Err (twice word) else Ok (record o { check = true }))
     else Err (not_expected word)
 
 abbrev pub with_word : Options → Word → Result Options (List ℕ)

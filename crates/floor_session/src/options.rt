@@ -164,7 +164,8 @@ fn asked_by(found: Found<'_>) -> Result<Asked<'_>, ArgsError<'_>>
 {
     match found {
         Found {
-            due: Some(option), ..
+            due: Some(option),
+            ..
         } => Err(ArgsError::NoFile(option)),
         Found {
             check: false,
@@ -174,10 +175,12 @@ fn asked_by(found: Found<'_>) -> Result<Asked<'_>, ArgsError<'_>>
         } => Ok(Asked::Session { house, phrases }),
         Found { house: None, .. } => Err(ArgsError::NothingToCheck),
         Found {
-            phrases: Some(_), ..
+            phrases: Some(_),
+            ..
         } => Err(ArgsError::CheckWithPhrases),
         Found {
-            house: Some(file), ..
+            house: Some(file),
+            ..
         } => Ok(Asked::Check(file)),
     }
 }
