@@ -4,6 +4,7 @@ use centres::position::Position;
 use centres::prepaid::Prepaid;
 use clearing::centre::{Centre, Unsettled};
 use clearing::grant::Grant;
+use clearing::resting::Resting;
 use clearing::side::Side::{self, Buy, Sell};
 use std::process::Abort;
 use std::test::Fail;
@@ -109,6 +110,27 @@ fn of_one_centre<C: Centre>(rt: &impl Abort, home: &mut C) {
     assert!(rt; moves(home, held, &[], Ok(()), Some((0, 30))));
 }
 
+// What an order gives of its 10 lots, and what it has left: nothing where it has fewer. What it gave is given back.
+fn gives<C: Centre>(centre: &mut C, order: &mut Resting, lots: u64) -> (u64, u64) {
+    let Some(grant) = order.call_up(lots) else {
+        return (0, order.lots());
+    };
+    let given = grant.lots();
+    let _answer = centre.give_back(grant);
+    (given, order.lots())
+}
+
+fn of_one_order<C: Centre>(rt: &impl Abort, home: &mut C) {
+    let mut order = reserved(rt, home, 1, Sell, 10).rest();
+    assert!(rt;
+        gives(home, &mut order, 11) == (0, 10) && gives(home, &mut order, u64::MAX) == (0, 10)
+    );
+    assert!(rt; gives(home, &mut order, 4) == (4, 6) && on(home, 1, Sell) == Some((6, 0)));
+    assert!(rt; gives(home, &mut order, 7) == (0, 6) && gives(home, &mut order, 0) == (0, 6));
+    let rest = order.call_up(order.lots()).unwrap();
+    assert!(rt; order.lots() == 0 && moves(home, rest, &[], Ok(()), Some((0, 0))));
+}
+
 // Account 2 has a line at the first centre alone. At the end the second centre's own grants are for lots that are gone.
 fn of_another_centre<C: Centre>(rt: &impl Abort, home: &mut C, away: &mut C) {
     let sold = reserved(rt, home, 2, Sell, 5);
@@ -131,26 +153,30 @@ fn of_another_centre<C: Centre>(rt: &impl Abort, home: &mut C, away: &mut C) {
     assert!(rt; on(home, 2, Buy) == Some((0, 30)) && on(home, 2, Sell) == Some((5, 8)));
 }
 
-#[test]
-fn only_what_a_prepaid_centre_holds_moves(rt: HostRuntime) -> Result<(), Fail> {
-    let rule = Prepaid::new(200)?;
-    let mut home = with_accounts(rt.alloc(), rule, &[(1, 20_000), (2, 20_000)])?;
-    let mut away = with_accounts(rt.alloc(), rule, &[(1, 20_000)])?;
-    of_one_centre(&rt, &mut home);
-    of_another_centre(&rt, &mut home, &mut away);
-    Ok(())
+// At the first centre two accounts have a line with room for 100 lots, at the second the first of them.
+fn only_what_is_held_moves<C: Centre + Drop>(rt: &impl Abort, mut home: C, mut away: C) {
+    of_one_order(rt, &mut home);
+    of_one_centre(rt, &mut home);
+    of_another_centre(rt, &mut home, &mut away);
 }
 
 #[test]
-fn only_what_a_capped_position_centre_holds_moves(rt: HostRuntime) -> Result<(), Fail> {
+fn only_what_a_prepaid_centre_holds_moves(rt: HostRuntime) -> Result<(), Fail> {
+    let rule = Prepaid::new(200)?;
+    let home = with_accounts(rt.alloc(), rule, &[(1, 20_000), (2, 20_000)])?;
+    let away = with_accounts(rt.alloc(), rule, &[(1, 20_000)])?;
+    only_what_is_held_moves(&rt, home, away);
+    Ok(())
+}
+
+// Under two caps.
+#[test]
+fn only_what_a_position_centre_holds_moves(rt: HostRuntime) -> Result<(), Fail> {
     let heap = rt.alloc();
     let home = with_accounts(heap, Position, &[(1, 100), (2, 100)])?;
+    let home = capped(heap, capped(heap, home, &[1, 2], 999)?, &[1, 2], 999)?;
     let away = with_accounts(heap, Position, &[(1, 100)])?;
-    let home = capped(heap, home, &[1, 2], 999)?;
-    let away = capped(heap, away, &[1, 2], 999)?;
-    let mut home = capped(heap, home, &[1, 2], 999)?;
-    let mut away = capped(heap, away, &[1, 2], 999)?;
-    of_one_centre(&rt, &mut home);
-    of_another_centre(&rt, &mut home, &mut away);
+    let away = capped(heap, capped(heap, away, &[1, 2], 999)?, &[1, 2], 999)?;
+    only_what_is_held_moves(&rt, home, away);
     Ok(())
 }

@@ -102,7 +102,7 @@ impl fmt::Display for SettingsError {
     fn fmt<W: fmt::Write>(&self, f: &mut fmt::Formatter<W>) -> fmt::Result {
         match self {
             SettingsError::OutOfMemory => f.write_str("out of memory"),
-            SettingsError::NotUtf8 { line } => write!(f, "line {line}: not UTF-8"),
+            SettingsError::NotUtf8 { line } => write!(f, "line {line}: expected UTF-8"),
             SettingsError::Syntax { line, error } => {
                 write!(f, "line {line}: not TOML: {}", error.message())
             }

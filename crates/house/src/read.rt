@@ -65,7 +65,8 @@ fn refused(text: &str, stop: Stop) -> SettingsError
 }
 
 /// Reads the settings of a house (docs/SETTINGS.md). The house is the one that the text says, with every line empty. A text
-/// is refused exactly where it is no TOML, or says no house, or one that its own centre does not take.
+/// is refused only where it is no TOML, says no house, or one that its own centre does not take; no house is read from such
+/// a text. The other error is want of memory.
 pub fn read(heap: Global, text: &str) -> Result<House, SettingsError>
     ensures house { IfOk result (λ h. IsSaid text.now h) }
     ensures refused { IfErr result (λ e. IsRefused e → passes fits (said text.now) ≡ false) }

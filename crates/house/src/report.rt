@@ -13,7 +13,7 @@ pub fn show<W: Write>(out: &mut W, heap: Global, name: &str, text: &[u8]) -> io:
             Ok(true)
         }
         Err(error) => {
-            write!(out, "{name}: {error}\n")?;
+            write!(out, "{name}, {error}\n")?;
             Ok(false)
         }
     }

@@ -1,4 +1,4 @@
-//! Runs of the programs `session` and `phrase_check`, many in one, stored. In the input each begins at a `$`, which is not
+//! Runs of the programs `session`, `phrase_check` and `rehearsal`, many in one, stored. In the input each begins at a `$`, which is not
 //! written otherwise: the rest of its line has the program and its arguments, parted by blanks, and what follows up to the
 //! next `$` stands on the program's standard input. The output has that line, what the program prints, and the error that it
 //! ends with.
@@ -28,6 +28,9 @@ fn run_one(rt: &HostRuntime, mut text: &[u8]) -> anyhow::Result<()> {
         }
         Some((word, args)) if word.as_str() == "phrase_check" => {
             phrase_report::program::run_with(rt, args, &mut text, &mut out)
+        }
+        Some((word, args)) if word.as_str() == "rehearsal" => {
+            scenario::program::run_with(rt, args, &mut text, &mut out)
         }
         _ => Err(anyhow!("no such program")),
     };

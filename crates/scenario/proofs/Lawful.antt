@@ -1,5 +1,5 @@
 -- The law over runs goes on over one call more. Assumes nothing.
-use Rattle.std.proofs.Common.{◌≡◌, List, [], ◌∷◌, ◌++◌, sym, subst}
+use Rattle.std.proofs.Common.{[], ◌∷◌, ◌++◌, subst}
 use Rattle.std.proofs.lemmas.List.{append_assoc}
 use Rattle.clearing.specs.Centre.{Lines, Own}
 use Rattle.dealing.specs.Replies.{Reply}

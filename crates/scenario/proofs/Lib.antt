@@ -1,2 +1,4 @@
 pub mod Lawful
 pub mod Numbers
+pub mod Rows
+pub mod Written

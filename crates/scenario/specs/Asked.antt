@@ -10,7 +10,6 @@ use Rattle.dealing.specs.declared.call.Kind.TheVariants.{Limited, Market}
 use Rattle.dealing.specs.declared.call.Rest.{Rest}
 use Rattle.dealing.specs.declared.call.Rest.TheVariants.{Queue, TakeOff, InFull}
 use Rattle.scenario.specs.Texts.{alone, number_of, number_or, word_at}
-use Rattle.scenario.specs.declared.words.Action.{Action}
 use Rattle.scenario.specs.declared.words.Action.TheVariants as action
 use Rattle.scenario.specs.declared.words.Asked.{Asked}
 use Rattle.scenario.specs.declared.words.Asked.TheVariants.{Do, Show}

@@ -1,7 +1,7 @@
 -- What is said of what was expected. Assumes nothing.
 use Rattle.std.specs.Prelude.{ℕ, List, codes}
 use Rattle.scenario.specs.declared.words.Expected.{Expected}
-use Rattle.scenario.specs.declared.words.Expected.TheVariants.{Start, Instrument, Call, Side, Kind, Rest, Number, Times, View, End}
+use Rattle.scenario.specs.declared.words.Expected.TheVariants.{Start, Instrument, Call, Side, Kind, Rest, Number, Times, View, End, Text}
 
 abbrev pub expected_text : Expected → List ℕ
 expected_text Start = codes "1, times, account, firm or show"
@@ -14,3 +14,4 @@ expected_text Number = codes "a number from -9223372036854775808 to 922337203685
 expected_text Times = codes "a number of times from 1 up"
 expected_text View = codes "book, trades, market or lines"
 expected_text End = codes "nothing more"
+expected_text Text = codes "UTF-8"

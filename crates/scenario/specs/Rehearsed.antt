@@ -1,5 +1,5 @@
 -- What one line of a scenario does, and what is printed of it. Assumes nothing.
-use Rattle.std.specs.Prelude.{◌≡◌, ℕ, Bool, true, false, List, [], ◌∷◌, ◌++◌, ℤ, codes, Ok, Err, Option, Result, MatchBool, OnOk, ◌==◌, slice_index_or}
+use Rattle.std.specs.Prelude.{◌≡◌, ℕ, Bool, true, List, [], ◌∷◌, ◌++◌, ℤ, codes, Ok, Err, Option, Result, MatchBool, OnOk, ◌==◌, slice_index_or}
 use Rattle.std.specs.Borrow.{Bor}
 use Rattle.std.specs.Io.KnownBytes.{Appends}
 use Rattle.clearing.specs.Centre.{Lines, Own}

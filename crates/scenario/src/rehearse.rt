@@ -10,7 +10,7 @@ use crate::carry::carry_out;
 use crate::error::{RehearsalError, Stop};
 use crate::floor::HouseFloor;
 use crate::state::{show_book, show_lines, show_market, show_trades, show_words};
-use crate::words::{Asked, View, read, words_of};
+use crate::words::{Asked, Expected, View, read, words_of};
 use house::read as settings;
 use market::market::Market;
 use market::rule::QueueRule;
@@ -48,12 +48,18 @@ fn show_view<W: Write, R: QueueRule, C: HouseFloor>(
     }
 }
 
-fn show_answer<W: Write>(out: &mut W, words: &[&str], answer: Answer) -> io::Result<()>
-    ensures { OnOk result (Appends (W.contents out.old) (W.contents out.new) (line_text words.now (answer_text answer))) }
+fn write_answer<W: Write>(out: &mut W, answer: &Answer) -> io::Result<()>
+    ensures { OnOk result (Appends (W.contents out.old) (W.contents out.new) (answer_text answer.now)) }
+{
+    write!(out, "{answer}")
+}
+
+fn show_answer<W: Write>(out: &mut W, words: &[&str], answer: &Answer) -> io::Result<()>
+    ensures { OnOk result (Appends (W.contents out.old) (W.contents out.new) (line_text words.now (answer_text answer.now))) }
 {
     show_words(out, words)?;
     out.write_all(b" = ")?;
-    write!(out, "{answer}")?;
+    write_answer(out, answer)?;
     out.write_all(b"\n")
 }
 
@@ -106,7 +112,7 @@ fn carry_words<W: Write, R: QueueRule, C: HouseFloor>(
     match read(words) {
         Ok(Asked::Do(action)) => {
             let (market, answer) = carry_out(market, action);
-            let shown = show_answer(out, words, answer);
+            let shown = show_answer(out, words, &answer);
             (market, shown.map_err(Stop::Io))
         }
         Ok(Asked::Show(view)) => {
@@ -117,13 +123,23 @@ fn carry_words<W: Write, R: QueueRule, C: HouseFloor>(
     }
 }
 
+// The text of a line, without a byte 13 at its end.
+fn text_of(line: &[u8]) -> Result<&str, Expected> {
+    let line = line.strip_suffix(b"\r").unwrap_or(line);
+    std::str::from_utf8(line).map_err(|_error| Expected::Text)
+}
+
 fn carry_line<W: Write, R: QueueRule, C: HouseFloor>(
     heap: Global,
     out: &mut W,
-    line: &str,
+    line: &[u8],
     market: Market<R, C>,
 ) -> (Market<R, C>, Result<(), Stop>) {
-    match words_of(heap, line) {
+    let text = match text_of(line) {
+        Ok(text) => text,
+        Err(expected) => return (market, Err(Stop::Expected(expected))),
+    };
+    match words_of(heap, text) {
         Ok(words) => carry_words(heap, out, words.as_slice(), market),
         Err(error) => (market, Err(Stop::Io(io::Error::from(error)))),
     }
@@ -133,7 +149,7 @@ fn carry_line<W: Write, R: QueueRule, C: HouseFloor>(
 fn carry_lines<W: Write, R: QueueRule, C: HouseFloor>(
     heap: Global,
     out: &mut W,
-    lines: &[&str],
+    lines: &[&[u8]],
     first: usize,
     market: Market<R, C>,
 ) -> (Market<R, C>, Result<(), RehearsalError>) {
@@ -149,31 +165,38 @@ fn carry_lines<W: Write, R: QueueRule, C: HouseFloor>(
 }
 
 // The lines as one text.
-fn joined(heap: Global, lines: &[&str]) -> Result<String, AllocError> {
-    let mut text = String::new(heap);
+fn joined(heap: Global, lines: &[&[u8]]) -> Result<Vec<u8>, AllocError> {
+    let mut text = Vec::new(heap);
     for line in lines {
-        text.push_str(line)?;
-        text.push('\n')?;
+        text.extend_from_slice(line)?;
+        text.push(b'\n')?;
     }
     Ok(text)
 }
 
-/// Rehearses a scenario: sets up the house that its settings say, up to the line `---`, and carries out the lines after it.
-/// Each is printed with its answer, but for blank ones and comments. A line that cannot be read ends it; what came before
-/// stays printed.
-pub fn rehearse<W: Write>(heap: Global, text: &str, out: &mut W) -> Result<(), RehearsalError> {
-    let lines: Vec<&str> = text.lines().collect(heap)?;
+// The lines of a text; what stands behind the last byte 10 is one where it has any byte.
+fn lines_of(heap: Global, text: &[u8]) -> Result<Vec<&[u8]>, AllocError> {
+    text.strip_suffix(b"\n")
+        .unwrap_or(text)
+        .split(|byte| *byte == b'\n')
+        .collect(heap)
+}
+
+/// Rehearses a scenario (docs/REHEARSAL.md): sets up the house that its settings say, up to the line `---`, and carries out
+/// the lines after it. Each is printed with its answer, but for those without words and comments. A line that cannot be
+/// read ends it; what came before stays printed.
+pub fn rehearse<W: Write>(heap: Global, text: &[u8], out: &mut W) -> Result<(), RehearsalError> {
+    let lines = lines_of(heap, text)?;
     let lines = lines.as_slice();
-    let end = lines.iter().position(|line| *line == "---");
+    let end = lines.iter().position(|line| text_of(line) == Ok("---"));
     let (Some(said), Some(asked)) = (
         end.and_then(|end| lines.get(..end)),
         end.and_then(|end| lines.get(end + 1..)),
     ) else {
-        return Err(RehearsalError::NoEnd {
-            line: lines.len().saturating_add(1),
-        });
+        let behind = if text.is_empty() { 1 } else { lines.len().saturating_add(1) };
+        return Err(RehearsalError::NoEnd { line: behind });
     };
-    let house = settings::read(heap, joined(heap, said)?.as_str())?;
+    let house = settings::read_bytes(heap, joined(heap, said)?.as_slice())?;
     let market = Market::new(heap, house.rule, house.centre)?;
     let first = said.len().saturating_add(2);
     let (market, carried) = carry_lines(heap, out, asked, first, market);

@@ -61,6 +61,8 @@ pub enum Expected {
     View,
     /// The end of the line.
     End,
+    /// A line of UTF-8.
+    Text,
 }
 
 impl fmt::Display for Expected {
@@ -78,6 +80,7 @@ impl fmt::Display for Expected {
             Expected::Times => "a number of times from 1 up",
             Expected::View => "book, trades, market or lines",
             Expected::End => "nothing more",
+            Expected::Text => "UTF-8",
         })
     }
 }
