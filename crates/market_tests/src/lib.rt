@@ -1,5 +1,7 @@
-// What no scenario can say of a market: what it answers over a centre that was put in place of another.
+// What no scenario can say of a market: what it answers over a centre that was changed by other means than its calls.
 #![tactic(auto)]
 
 #[cfg(test)]
 mod centre_changed;
+#[cfg(test)]
+mod steps;
