@@ -100,13 +100,16 @@ pub(crate) fn line_of(text: &str, place: &Place) -> usize {
         Section::Instruments => first_line(text, "instrument.", key),
         Section::Instrument => key_line(text, "instrument.1", 1, key),
         Section::Centre => key_line(text, "centre", 1, key),
-        Section::Accounts => own_line(text, "centre", 1, "centre.accounts", key)
-            .unwrap_or_else(|| key_line(text, "centre", 1, "accounts")),
+        Section::Accounts => own_line(text, "centre", 1, "centre.accounts", key).unwrap_or_else(
+            || key_line(text, "centre", 1, "accounts"),
+        ),
         Section::Layer(nth) => key_line(text, "cap", nth, key),
-        Section::Members(nth) => own_line(text, "cap", nth, "cap.members", key)
-            .unwrap_or_else(|| key_line(text, "cap", nth, "members")),
-        Section::Caps(nth) => own_line(text, "cap", nth, "cap.caps", key)
-            .unwrap_or_else(|| key_line(text, "cap", nth, "caps")),
+        Section::Members(nth) => own_line(text, "cap", nth, "cap.members", key).unwrap_or_else(
+            || key_line(text, "cap", nth, "members"),
+        ),
+        Section::Caps(nth) => own_line(text, "cap", nth, "cap.caps", key).unwrap_or_else(
+            || key_line(text, "cap", nth, "caps"),
+        ),
     }
 }
 

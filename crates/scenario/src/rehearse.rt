@@ -193,7 +193,11 @@ pub fn rehearse<W: Write>(heap: Global, text: &[u8], out: &mut W) -> Result<(), 
         end.and_then(|end| lines.get(..end)),
         end.and_then(|end| lines.get(end + 1..)),
     ) else {
-        let behind = if text.is_empty() { 1 } else { lines.len().saturating_add(1) };
+        let behind = if text.is_empty() {
+            1
+        } else {
+            lines.len().saturating_add(1)
+        };
         return Err(RehearsalError::NoEnd { line: behind });
     };
     let house = settings::read_bytes(heap, joined(heap, said)?.as_slice())?;
