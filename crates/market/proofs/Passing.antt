@@ -1,6 +1,6 @@
 -- What every order of a queue passes, where a lowered order passes it too: every order that is left passes it. Assumes
 -- nothing.
-use Rattle.std.proofs.Common.{◌≡◌, ℕ, zero, suc, Bool, true, leb, List, [], ◌∷◌, ◌++◌, ℤ, pos, Some, refl, IfSome}
+use Rattle.std.proofs.Common.{◌≡◌, ℕ, zero, suc, Bool, true, eqb, leb, List, [], ◌∷◌, ◌++◌, ℤ, pos, Some, refl, IfSome}
 use Rattle.std.specs.List.{list_all}
 use Rattle.std.proofs.lemmas.Bool.{and_from, and_parts, cond_both}
 use Rattle.ordered.specs.Key.{eq_z}
@@ -8,7 +8,7 @@ use Rattle.ordered.specs.Row.{at_key, place}
 use Rattle.ordered.proofs.Orders.{all_pass_inserted}
 use Rattle.dealing.specs.declared.call.Entry.{Entry}
 use Rattle.market.proofs.Walking.{walk_induction}
-use Rattle.market.specs.Order.{joined, left_of, lots_of, lowered, sided}
+use Rattle.market.specs.Order.{joined, left_of, lots_of, lower, lowered, sided}
 use Rattle.market.specs.QueueTable.{lowered_at}
 use Rattle.market.specs.Rule.{Rule}
 use Rattle.market.specs.Walk.{walk}
@@ -31,6 +31,13 @@ module _ (p : Order → Bool) where
     all_left o n q all =
         let both = and_parts (p o) _ all in
         cond_both (leb (lots_of o) n) [] (lowered o n ∷ []) (λ l. list_all p (l ++ q) ≡ true) (λ _. both.1) (λ _. and_from _ _ (stays o n both.0) both.1)
+
+    -- the order with a number is lowered, where there is one
+    pub all_lower : (k n : ℕ) (q : List Order) → list_all p q ≡ true → list_all p (lower k n q) ≡ true
+    all_lower k n [] all = refl
+    all_lower k n (o ∷ q) all =
+        let both = and_parts (p o) _ all in
+        cond_both (eqb o.number k) (left_of o n ++ q) (o ∷ lower k n q) (λ l. list_all p l ≡ true) (λ _. all_left o n q all) (λ _. and_from _ _ both.0 (all_lower k n q both.1))
 
     pub all_lowered_at : (i n : ℕ) (q : List Order) → list_all p q ≡ true → list_all p (lowered_at i n q) ≡ true
     all_lowered_at i n [] all = refl

@@ -180,7 +180,9 @@ impl<R: QueueRule + Drop, C: Centre + Drop> Market<R, C> {
         let book = Book::new(heap, rule)?;
         Ok(Market { book, centre })
     }
+}
 
+impl<R: QueueRule + Drop, C: Centre> Market<R, C> {
     /// Closes the market, in any period: every resting order leaves, and its lots are given back to the centre, which is handed
     /// back with its settings as they are. Buys come before sells, each queue from its first order to its last. An order whose
     /// lots its account's line does not hold gives none back (cause 5), and no line moves for it.

@@ -165,6 +165,11 @@ fn counts<C: Centre>(centre: &C, account: i64, buys: Side) -> Option<[u64; 4]> {
     Some([bought.held, bought.settled, sold.held, sold.settled])
 }
 
+// A market ends over any centre, one that may not be let go too.
+fn ended<R: QueueRule + Drop, C: Centre>(market: Market<R, C>) -> C {
+    market.close()
+}
+
 // The orders come to rest over the first centre, and the steps are taken over the changed one.
 fn moved<R: QueueRule + Drop, C: Centre + Drop>(
     rt: &impl Abort,
@@ -181,7 +186,7 @@ fn moved<R: QueueRule + Drop, C: Centre + Drop>(
     let centre = changed(rt, first, second, case.short, buys.other());
     let mut market = Market::from_parts(book, centre);
     run(rt, &mut market, buys, case.steps);
-    let centre = market.close();
+    let centre = ended(market);
     assert_eq!(rt; counts(&centre, case.account, buys), case.line);
     Ok(())
 }
