@@ -148,8 +148,7 @@ fn serve_next<S: LineService, R: BufRead, W: Write>(
         }
         Next::LastLine => {
             write_whole(output, service.printed())?;
-            flush(output)?;
-            Ok(Step::Done)
+            Ok(Step::More(true))
         }
         Next::NoLine => {
             flush(output)?;
@@ -161,7 +160,8 @@ fn serve_next<S: LineService, R: BufRead, W: Write>(
 /// Answers the lines of the input, from number 1 on, and writes each answer before it looks at the next line.
 ///
 /// A line goes up to a byte 10; what follows the last byte 10 is a line too, unless it is empty. No other byte tells
-/// anything here. Of a line no more is kept, or handed to the service, than its first `LONGEST` bytes. What is written
+/// anything here. Behind a line that the end of the input ends, the reader is asked once more, since a terminal may go
+/// on after its end. Of a line no more is kept, or handed to the service, than its first `LONGEST` bytes. What is written
 /// is flushed each time before the reader may have to wait, and at the end.
 ///
 /// # Errors

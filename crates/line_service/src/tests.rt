@@ -182,12 +182,14 @@ fn run(heap: Global, pieces: &[&[u8]], fails: bool, room: usize) -> io::Result<E
 
 #[test]
 fn each_line_is_answered(rt: HostRuntime) -> Result<(), Fail> {
-    let cases: [(&[&[u8]], &str); 6] = [
+    let cases: [(&[&[u8]], &str); 7] = [
         (&[], ""),
         (&[b"\n"], "100\n"),
         (&[b"ab\ncde\n", b"f\n"], "122\n235\n316\n"),
         (&[b"a", b"b\n\nc", b"\r\n"], "122\n202\n324\n"),
         (&[b"ab", b"c"], "133\n"),
+        // An end that passes, as at a terminal: the begun line is answered, and the reader is asked once more.
+        (&[b"ab", b"", b"c\n"], "122\n213\n"),
         (
             &[b"abcd", b"efgh", b"ij\nk\n", b"abcdefg\nl"],
             "155\n216\n351\n412\n",

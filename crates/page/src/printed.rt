@@ -27,7 +27,7 @@ use crate::table::PhraseTable;
 use clearing::cause::{Cause, Denial};
 use dealing::outcome::{Figures, Outcome};
 use dealing::refusal::Refusal;
-use dealing::reply::{OWNERS, Reply, number, phrase_place};
+use dealing::reply::{Reply, number, phrase_place};
 
 // The bytes of a printed line.
 pub const LINE: usize = 86;
@@ -149,37 +149,36 @@ fn reply_at(place: usize, figures: Figures, denial: Denial) -> Reply
     requires { place < 28 }
     ensures { result ≡ slice_index_or (replies figures denial) place (Ok Opened) }
 {
-    let replies: [Reply; OWNERS] = [
-        Err(Refusal::WrongPeriod),
-        Err(Refusal::LotsOutOfRange),
-        Err(Refusal::MarketTerms),
-        Err(Refusal::PriceOutOfBand),
-        Err(Refusal::NumbersUsedUp),
-        Err(Refusal::OwnOrderFirst),
-        Err(Refusal::NotInFull),
-        Err(Refusal::RegisterFull),
-        Err(Refusal::QueueFull),
-        Err(Refusal::NoSuchOrder),
-        Err(Refusal::NotYourOrder),
-        Err(Refusal::ReductionOutOfRange),
-        Err(Refusal::OutOfStep),
-        Err(Refusal::CentreDenies(denial)),
-        Err(Refusal::CommandLength),
-        Err(Refusal::CommandLetter),
-        Err(Refusal::CommandNumber),
-        Ok(Outcome::Filled(figures)),
-        Ok(Outcome::Resting(figures)),
-        Ok(Outcome::PartResting(figures)),
-        Ok(Outcome::TakenOff(figures)),
-        Ok(Outcome::PartOffAtLimit(figures)),
-        Ok(Outcome::PartOffAtOwn(figures)),
-        Ok(Outcome::Withdrawn(figures)),
-        Ok(Outcome::Reduced(figures)),
-        Ok(Outcome::Suspended),
-        Ok(Outcome::Resumed),
-        Ok(Outcome::Opened),
-    ];
-    replies[place]
+    match place {
+        0 => Err(Refusal::WrongPeriod),
+        1 => Err(Refusal::LotsOutOfRange),
+        2 => Err(Refusal::MarketTerms),
+        3 => Err(Refusal::PriceOutOfBand),
+        4 => Err(Refusal::NumbersUsedUp),
+        5 => Err(Refusal::OwnOrderFirst),
+        6 => Err(Refusal::NotInFull),
+        7 => Err(Refusal::RegisterFull),
+        8 => Err(Refusal::QueueFull),
+        9 => Err(Refusal::NoSuchOrder),
+        10 => Err(Refusal::NotYourOrder),
+        11 => Err(Refusal::ReductionOutOfRange),
+        12 => Err(Refusal::OutOfStep),
+        13 => Err(Refusal::CentreDenies(denial)),
+        14 => Err(Refusal::CommandLength),
+        15 => Err(Refusal::CommandLetter),
+        16 => Err(Refusal::CommandNumber),
+        17 => Ok(Outcome::Filled(figures)),
+        18 => Ok(Outcome::Resting(figures)),
+        19 => Ok(Outcome::PartResting(figures)),
+        20 => Ok(Outcome::TakenOff(figures)),
+        21 => Ok(Outcome::PartOffAtLimit(figures)),
+        22 => Ok(Outcome::PartOffAtOwn(figures)),
+        23 => Ok(Outcome::Withdrawn(figures)),
+        24 => Ok(Outcome::Reduced(figures)),
+        25 => Ok(Outcome::Suspended),
+        26 => Ok(Outcome::Resumed),
+        _ => Ok(Outcome::Opened),
+    }
 }
 
 fn figures_at(bytes: &[u8; LINE]) -> Figures

@@ -55,24 +55,6 @@ returns-in_err-write_whole-in-LastLine-clause-stopped g c =
     (StopsEarly-line g.S.LineService.shown g.S.LineService.next _ _ c.args.number _ _ _ now.line _ e (AreFirstLines-consumed _ _ _ now.read) now.answers wrote)
     )
 
-pub returns-in_err-flush-in-LastLine-clause-stopped : goal.returns-in_err-flush-in-LastLine-clause-stopped
-returns-in_err-flush-in-LastLine-clause-stopped g c =
-    let p = err_from_is_err_and c.from_residual-in_err-flush-in-LastLine.result c.from_residual-in_err-flush-in-LastLine.ensures.1 in
-    let e = c.in_err-flush-in-LastLine.field-0.0 in
-    let now = (subst (AnswersNext g.S.LineService.shown g.S.LineService.next _ _ _ _ _ _) c.in-LastLine.is c.in_ok-used_up.ensures.next).0 in
-    let before = Serves-nil g.S.LineService.shown g.S.LineService.next _ _ c.args.number _ _ refl (Keeps-trans _ _ _ c.ready.ensures.shown c.answer_next.ensures.shown) in
-    let wrote = subst (Appends (g.W.Write.contents c.answer_next.new.output) (g.W.Write.contents c.write_whole-in-LastLine.new.output)) c.printed-in-LastLine.ensures c.in_ok-write_whole-in-LastLine.ensures.ok in
-    let serves = Serves-line g.S.LineService.shown g.S.LineService.next _ _ c.args.number now.line _ _ _ now.answers wrote in
-    rw (p.1, p.2) (
-    StopsEarly-after g.S.LineService.shown g.S.LineService.next _ _ _ c.args.number c.args.number _ _ _ _ _ [] e (omega arith) (ConsumesLines-nil _ _ c.ready.ensures.kept) before
-    (
-    StopsEarly-whole g.S.LineService.shown g.S.LineService.next _ _ c.args.number _ _ _ (now.line ∷ []) e
-    (other_error c.flush.result e _ c.flush.ensures.error c.in_err-flush-in-LastLine.was)
-    (AreFirstLines-consumed _ _ _ now.read)
-    (Serves-kept g.S.LineService.shown g.S.LineService.next _ _ c.args.number _ _ _ _ serves c.flush.ensures.shown)
-    )
-    )
-
 pub returns-in_err-flush-in-NoLine-clause-stopped : goal.returns-in_err-flush-in-NoLine-clause-stopped
 returns-in_err-flush-in-NoLine-clause-stopped g c =
     let p = err_from_is_err_and c.from_residual-in_err-flush-in-NoLine.result c.from_residual-in_err-flush-in-NoLine.ensures.1 in
@@ -81,24 +63,7 @@ returns-in_err-flush-in-NoLine-clause-stopped g c =
     let before = Serves-nil g.S.LineService.shown g.S.LineService.next _ _ c.args.number _ _ now.state (Keeps-trans _ _ _ c.ready.ensures.shown c.answer_next.ensures.shown) in
     rw (p.1, p.2) (
     StopsEarly-whole g.S.LineService.shown g.S.LineService.next _ _ c.args.number _ _ _ [] e
-    (other_error c.flush-in-NoLine.result e _ c.flush-in-NoLine.ensures.error c.in_err-flush-in-NoLine.was)
+    (other_error c.flush.result e _ c.flush.ensures.error c.in_err-flush-in-NoLine.was)
     (AreFirstLines-nil _)
-    (Serves-kept g.S.LineService.shown g.S.LineService.next _ _ c.args.number _ _ _ _ before c.flush-in-NoLine.ensures.shown)
-    )
-
-pub returns-in_ok-flush-in-LastLine-clause-served : goal.returns-in_ok-flush-in-LastLine-clause-served
-returns-in_ok-flush-in-LastLine-clause-served g c =
-    let now = subst (AnswersNext g.S.LineService.shown g.S.LineService.next _ _ _ _ _ _) c.in-LastLine.is c.in_ok-used_up.ensures.next in
-    let line = now.0.line in
-    let before = Serves-nil g.S.LineService.shown g.S.LineService.next _ _ c.args.number _ _ refl (Keeps-trans _ _ _ c.ready.ensures.shown c.answer_next.ensures.shown) in
-    let wrote = subst (Appends (g.W.Write.contents c.answer_next.new.output) (g.W.Write.contents c.write_whole-in-LastLine.new.output)) c.printed-in-LastLine.ensures c.in_ok-write_whole-in-LastLine.ensures.ok in
-    let serves = Serves-line g.S.LineService.shown g.S.LineService.next _ _ c.args.number line _ _ _ now.0.answers wrote in (
-      line ∷ [],
-      le_refl 1,
-      end_after _ _ _ [] (Consumes-kept _ _ _ [] (Consumes-nil _) c.ready.ensures.kept) now.1,
-      record {
-        read = ConsumesLines-trans _ _ _ [] (line ∷ []) (ConsumesLines-nil _ _ c.ready.ensures.kept) now.0.read;
-        serves = Serves-trans g.S.LineService.shown g.S.LineService.next _ _ _ c.args.number c.args.number [] (line ∷ []) _ _ _ (omega arith) before
-            (Serves-kept g.S.LineService.shown g.S.LineService.next _ _ c.args.number _ _ _ _ serves c.flush.ensures.shown);
-      },
+    (Serves-kept g.S.LineService.shown g.S.LineService.next _ _ c.args.number _ _ _ _ before c.flush.ensures.shown)
     )
