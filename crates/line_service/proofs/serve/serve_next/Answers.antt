@@ -1,11 +1,10 @@
-use Rattle.std.proofs.Common.{◌∷◌, [], arith, refl, subst, le_refl}
+use Rattle.std.proofs.Common.{[], arith, refl, subst}
 use Rattle.std.proofs.lemmas.Result.{err_from_is_err_and}
-use Rattle.std.proofs.KnownBytes.{Consumes-kept, Consumes-nil, Keeps-trans}
-use Rattle.std.specs.Io.KnownBytes.{Appends}
+use Rattle.std.proofs.KnownBytes.{Keeps-trans}
 use Rattle.line_service.specs.Pieces.{WritesFront}
 use Rattle.line_service.specs.Steps.{AnswersNext}
-use Rattle.line_service.proofs.LineLemmas.{AreFirstLines-consumed, AreFirstLines-nil, ConsumesLines-nil, ConsumesLines-trans, end_after}
-use Rattle.line_service.proofs.PageLemmas.{Serves-nil, Serves-line, Serves-kept, Serves-trans, StopsEarly-after, StopsEarly-line, StopsEarly-whole, other_error}
+use Rattle.line_service.proofs.LineLemmas.{AreFirstLines-consumed, AreFirstLines-nil, ConsumesLines-nil}
+use Rattle.line_service.proofs.PageLemmas.{Serves-nil, Serves-kept, StopsEarly-after, StopsEarly-line, StopsEarly-whole, other_error}
 use Rattle.line_service.proofs.serve.serve_next.Goals as goal
 
 pub returns-in_err-ready-clause-stopped : goal.returns-in_err-ready-clause-stopped
